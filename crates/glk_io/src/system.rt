@@ -1,0 +1,270 @@
+// The system's files, readers and writers.
+ghost use Rattle.std.specs.Prelude.{◌≡◌, ◌≤◌, ◌<◌, List, ℕ, None, IfSome, IfOk, length};
+ghost use Rattle.std.specs.Io.{ReadsAtMost, WritesAtMost};
+ghost use Rattle.std.specs.Io.KnownBytes.{ReadConsumes, WriteAppends};
+ghost use Rattle.glk_io.specs.Contents.{Stays};
+ghost use Rattle.glk_io.specs.Counts.{count_after_call};
+ghost use Rattle.glk_io.specs.Files.{ReadTells, ReadsUpTo, HasReadCause, WriteLeaves, HasWriteCause, count_after_read};
+ghost use Rattle.glk_io.specs.Streams.{HasCause};
+
+use super::files::{Files, ReadError, WriteError};
+use super::streams::{Failed, Sink, Source};
+use std::alloc::Global;
+use std::fs::{OpenFile, OpenOptions};
+use std::io::{ErrorKind, Read, Write};
+use std::os::unix::fs::{MetadataExt, OpenOptionsExt, PermissionsExt};
+use std::rt::Files as SystemFiles;
+use std::{fs, io};
+
+/// A reader of std. It tells what the reader tells, which is nothing for the system's own.
+#[derive(Drop)]
+pub struct OsSource<R> {
+    inner: R,
+    faults: u64,
+}
+
+impl<R: Read> OsSource<R> {
+    /// A source over this reader, without a fault.
+    pub fn new(inner: R) -> OsSource<R>
+        ensures left { ⟦<OsSource<R> as Source>⟧.left result ≡ R.remaining inner }
+        ensures count { ⟦<OsSource<R> as Source>⟧.fault_count result ≡ 0 }
+    {
+        OsSource { inner, faults: 0 }
+    }
+}
+
+impl<R: Read> Source for OsSource<R> {
+    ghost left = { λ s. R.remaining s.inner };
+
+    ghost fault_count = { λ s. s.faults };
+
+    fn faults(&self) -> u64 {
+        self.faults
+    }
+
+    fn read(&mut self, buf: &mut [u8]) -> Result<usize, Failed>
+        ensures bound { ReadsAtMost result buf.new }
+        ensures bytes { ReadConsumes (R.remaining self.old.inner) (R.remaining self.new.inner) result buf.new }
+        ensures cause { HasCause self.old.faults self.new.faults result }
+        ensures count { self.new.faults ≡ count_after_call self.old.faults result }
+    {
+        match self.inner.read(buf) {
+            Ok(count) => Ok(count),
+            Err(_) => {
+                self.faults = self.faults.saturating_add(1);
+                Err(Failed)
+            }
+        }
+    }
+}
+
+/// A writer of std. It tells what the writer tells, which is nothing for the system's own.
+#[derive(Drop)]
+pub struct OsSink<W> {
+    inner: W,
+    faults: u64,
+}
+
+impl<W: Write> OsSink<W> {
+    /// A sink over this writer, without a fault.
+    pub fn new(inner: W) -> OsSink<W>
+        ensures held { ⟦<OsSink<W> as Sink>⟧.held result ≡ W.contents inner }
+        ensures count { ⟦<OsSink<W> as Sink>⟧.fault_count result ≡ 0 }
+    {
+        OsSink { inner, faults: 0 }
+    }
+}
+
+impl<W: Write> Sink for OsSink<W> {
+    ghost held = { λ s. W.contents s.inner };
+
+    ghost fault_count = { λ s. s.faults };
+
+    fn faults(&self) -> u64 {
+        self.faults
+    }
+
+    fn write(&mut self, piece: &[u8]) -> Result<usize, Failed>
+        ensures bound { WritesAtMost result piece.now }
+        ensures some { 0 < length piece.now → IfOk result (λ taken. 0 < taken) }
+        ensures bytes { WriteAppends (W.contents self.old.inner) (W.contents self.new.inner) result piece.now }
+        ensures cause { HasCause self.old.faults self.new.faults result }
+        ensures count { self.new.faults ≡ count_after_call self.old.faults result }
+    {
+        match self.inner.write(piece) {
+            // A writer that takes nothing would never end.
+            Ok(0) if !piece.is_empty() => {
+                self.faults = self.faults.saturating_add(1);
+                Err(Failed)
+            }
+            Ok(count) => Ok(count),
+            Err(_) => {
+                self.faults = self.faults.saturating_add(1);
+                Err(Failed)
+            }
+        }
+    }
+}
+
+// What is written: data, or programs.
+#[derive(Clone, Copy, Debug, PartialEq, Eq)]
+enum Output {
+    Plain,
+    Program,
+}
+
+impl Output {
+    // The permissions of a new file, before the mask of the process takes its part away.
+    fn mode(self) -> u32 {
+        match self {
+            Output::Plain => 0o666,
+            Output::Program => 0o777,
+        }
+    }
+}
+
+/// The files of the system. They tell no contents.
+#[derive(Drop)]
+pub struct OsFiles<'a, R: SystemFiles> {
+    rt: &'a R,
+    output: Output,
+    read_faults: u64,
+    write_faults: u64,
+}
+
+impl<'a, R: SystemFiles> OsFiles<'a, R> {
+    /// The files of the system, without a fault. A file that it makes is plain data.
+    pub fn new(rt: &'a R) -> OsFiles<'a, R>
+        ensures contents { ⟦<OsFiles<'a, R> as Files>⟧.contents result ≡ None }
+        ensures reads { ⟦<OsFiles<'a, R> as Files>⟧.read_count result ≡ 0 }
+        ensures writes { ⟦<OsFiles<'a, R> as Files>⟧.write_count result ≡ 0 }
+    {
+        OsFiles {
+            rt,
+            output: Output::Plain,
+            read_faults: 0,
+            write_faults: 0,
+        }
+    }
+
+    /// As `new`, but each file that it writes can be run as a program by those who can read it.
+    pub fn for_programs(rt: &'a R) -> OsFiles<'a, R>
+        ensures contents { ⟦<OsFiles<'a, R> as Files>⟧.contents result ≡ None }
+        ensures reads { ⟦<OsFiles<'a, R> as Files>⟧.read_count result ≡ 0 }
+        ensures writes { ⟦<OsFiles<'a, R> as Files>⟧.write_count result ≡ 0 }
+    {
+        OsFiles {
+            rt,
+            output: Output::Program,
+            read_faults: 0,
+            write_faults: 0,
+        }
+    }
+}
+
+// Who may read a file. Two bits lower stands who may run it.
+const READ_BITS: u32 = 0o444;
+
+const READ_TO_RUN: u32 = 2;
+
+// Lets those who can read the file run it. What is no regular file is left alone.
+fn let_run<F: OpenFile>(file: &F) -> io::Result<()> {
+    let metadata = file.metadata()?;
+    let mode = metadata.mode() | ((metadata.mode() & READ_BITS) >> READ_TO_RUN);
+    if !metadata.is_file() || mode == metadata.mode() {
+        return Ok(());
+    }
+    file.set_permissions(fs::Permissions::from_mode(mode))
+}
+
+// Makes the bytes the file at the path. A file that stands there keeps its permissions, so a program
+// needs more than the mode at opening.
+fn write_bytes<R: SystemFiles>(rt: &R, path: &str, bytes: &[u8], output: Output) -> io::Result<()> {
+    let mut options = OpenOptions::new();
+    options.write(true).create(true).truncate(true);
+    options.mode(output.mode());
+    let mut file = options.open(rt, path)?;
+    file.write_all(bytes)?;
+    if output == Output::Program {
+        let_run(&file)?;
+    }
+    Ok(())
+}
+
+// The bytes that a reader has left, at most `max` of them; `size` is about how many there are.
+fn read_up_to<S: Read + Drop>(
+    alloc: Global,
+    file: S,
+    size: u64,
+    max: u64,
+) -> Result<Vec<u8>, ReadError>
+    ensures short { IfOk result (λ bytes. length bytes.items ≤ max) }
+    ensures told { ReadsUpTo (S.remaining file) max result }
+{
+    // One byte past the limit tells that the file is longer.
+    let limit = max.saturating_add(1);
+    let Ok(mut bytes) = Vec::with_capacity(alloc, size.saturating_add(1).min(limit) as usize) else {
+        return Err(ReadError::OutOfMemory);
+    };
+    match file.take(limit).read_to_end(&mut bytes) {
+        Ok(_) if bytes.len() as u64 >= limit => Err(ReadError::TooLong),
+        Ok(_) => Ok(bytes),
+        Err(e) if e.kind() == ErrorKind::OutOfMemory => Err(ReadError::OutOfMemory),
+        Err(_) => Err(ReadError::Failed),
+    }
+}
+
+impl<'a, R: SystemFiles> Files for OsFiles<'a, R> {
+    ghost use Rattle.std.specs.Prelude.{None};
+
+    ghost contents = { λ _. None };
+
+    ghost read_count = { λ f. f.read_faults };
+
+    ghost write_count = { λ f. f.write_faults };
+
+    fn read_faults(&self) -> u64 {
+        self.read_faults
+    }
+
+    fn write_faults(&self) -> u64 {
+        self.write_faults
+    }
+
+    fn read_file(&mut self, alloc: Global, path: &str, max: u64) -> Result<Vec<u8>, ReadError>
+        ensures short { IfOk result (λ bytes. length bytes.items ≤ max) }
+        ensures told { ReadTells None path.now max result }
+        ensures stays { Stays None None }
+        ensures cause { HasReadCause self.old.read_faults self.new.read_faults result }
+        ensures writes { self.new.write_faults ≡ self.old.write_faults }
+        ensures count { self.new.read_faults ≡ count_after_read self.old.read_faults result }
+    {
+        let read = match fs::open(self.rt, path) {
+            Err(e) if e.kind() == ErrorKind::NotFound => return Err(ReadError::Absent),
+            Err(_) => Err(ReadError::Failed),
+            Ok(file) => {
+                let size = file.metadata().map_or(0, |metadata| metadata.len());
+                read_up_to(alloc, file, size, max)
+            }
+        };
+        if let Err(ReadError::Failed) = read {
+            self.read_faults = self.read_faults.saturating_add(1);
+        }
+        read
+    }
+
+    fn write_file(&mut self, _alloc: Global, path: &str, bytes: &[u8]) -> Result<(), WriteError>
+        ensures leaves { WriteLeaves None None path.now bytes.now result }
+        ensures cause { HasWriteCause self.old.write_faults self.new.write_faults result }
+        ensures reads { self.new.read_faults ≡ self.old.read_faults }
+        ensures count { self.new.write_faults ≡ count_after_call self.old.write_faults result }
+    {
+        match write_bytes(self.rt, path, bytes, self.output) {
+            Ok(()) => Ok(()),
+            Err(_) => {
+                self.write_faults = self.write_faults.saturating_add(1);
+                Err(WriteError::Failed)
+            }
+        }
+    }
+}
