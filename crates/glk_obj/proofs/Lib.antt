@@ -1,0 +1,10 @@
+pub mod Intact
+pub mod BlockOrder
+pub mod LeastPlaces
+pub mod TableFaults
+pub mod FieldPlaces
+pub mod SymbolPlaces
+pub mod TablePlaces
+pub mod RelocPlaces
+pub mod Objects
+pub mod Laws

@@ -1,0 +1,12 @@
+pub mod Blocks
+pub mod Packages
+pub mod Records
+pub mod References
+pub mod Least
+pub mod Laid
+pub mod Fields
+pub mod Rules
+pub mod Object
+pub mod Positive
+pub mod Views
+pub mod TargetTest

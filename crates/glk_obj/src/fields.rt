@@ -1,0 +1,129 @@
+// The rules on a field that records of several blocks have.
+ghost use Rattle.std.specs.Prelude.{◌≡◌, ◌≢◌, ◌+◌, ◌*◌, ◌<◌, ◌≤◌, ◌^◌, ◌↔◌, ℕ, List, length, IsTrue};
+ghost use Rattle.glk_obj.specs.Blocks.{offset_of, width_of, count as count_of, hash, ref_name};
+ghost use Rattle.glk_obj.specs.Fields.{HasField, shift_of, field_place as field_place_of, IsPlace, FailsAt, FailsIn};
+ghost use Rattle.glk_obj.specs.Laid.{Laid};
+ghost use Rattle.glk_obj.specs.Least.{LeastOf};
+
+use crate::blocks::{Block, count_at, offset_at, width_at};
+
+/// A field of records: a string that is named, or a symbol that is meant. Both take eight bytes.
+#[derive(Clone, Copy, Debug)]
+pub(crate) enum Field {
+    Text,
+    Target,
+}
+
+/// A test of the field that stands at a place.
+pub(crate) trait FieldTest {
+    ghost can: { Self → List ℕ → ℕ → Type 0 };
+
+    ghost bad: { List ℕ → ℕ → Type 0 };
+
+    fn fails(&self, bytes: &[u8], at: usize) -> bool
+        requires room { at + 8 ≤ length bytes.now }
+        requires can { can self.now bytes.now at }
+        ensures { IsTrue result ↔ bad bytes.now at };
+}
+
+/// Whether the records of block `t` have the field.
+#[tactic(auto, unfolding(crate::specs::Fields::HasField))]
+fn has_field(field: Field, t: usize) -> bool
+    ensures { IsTrue result ↔ HasField field t }
+{
+    let names = t == Block::RefName.number();
+    match field {
+        Field::Text => t <= Block::Nonpkgref.number() || names,
+        Field::Target => {
+            t == Block::RefFlags.number()
+                || t == Block::Reloc.number()
+                || t == Block::Aux.number()
+                || names
+        }
+    }
+}
+
+/// How far into a record of block `t` the field stands.
+#[tactic(auto, unfolding(crate::specs::Fields::shift_of))]
+fn shift(field: Field, t: usize) -> usize
+    ensures value { result ≡ shift_of field t }
+    ensures small { result < 16 }
+{
+    match field {
+        Field::Text => { if t == Block::RefName.number() { 8 } else { 0 } }
+        Field::Target => {
+            if t == Block::Reloc.number() {
+                15
+            } else if t == Block::Aux.number() {
+                1
+            } else {
+                0
+            }
+        }
+    }
+}
+
+/// Where record `i` of block `t` has the field, the block being at `start`.
+#[tactic(auto, unfolding(crate::specs::Fields::field_place))]
+fn field_place(
+    bytes: &[u8],
+    field: Field,
+    t: usize,
+    start: usize,
+    width: usize,
+    shift: usize,
+    i: u32,
+) -> usize
+    requires laid { Laid bytes.now }
+    requires block { HasField field t }
+    requires start { start ≡ offset_of bytes.now t }
+    requires low { start < 2 ^ 32 }
+    requires width { width ≡ width_of t }
+    requires narrow { width ≤ 23 }
+    requires shift { shift ≡ shift_of field t }
+    requires near { shift < 16 }
+    requires index { i < count_of bytes.now t }
+    ensures value { result ≡ field_place_of bytes.now field t i }
+    ensures room { result + 8 ≤ length bytes.now }
+{
+    let _ = bytes;
+    start + width * i as usize + shift
+}
+
+/// The first place in block `t` at which the test fails.
+fn first_in_block<T: FieldTest>(bytes: &[u8], field: Field, t: usize, test: &T) -> Option<u64>
+    requires laid { Laid bytes.now }
+    requires block { HasField field t }
+    requires inside { t ≤ ref_name }
+    requires fixed { t ≢ hash }
+    requires can { (at : ℕ) → IsPlace bytes.now field at → T.can test.now bytes.now at }
+    ensures { LeastOf (FailsIn bytes.now field (T.bad bytes.now) t) result }
+{
+    let start = offset_at(bytes, t);
+    let width = width_at(t);
+    let shift = shift(field, t);
+    for i in 0..count_at(bytes, t) {
+        let at = field_place(bytes, field, t, start, width, shift, i);
+        if test.fails(bytes, at) {
+            return Some(at as u64);
+        }
+    }
+    None
+}
+
+/// The first place at which the test fails.
+pub(crate) fn first_failing<T: FieldTest>(bytes: &[u8], field: Field, test: &T) -> Option<u64>
+    requires laid { Laid bytes.now }
+    requires can { (at : ℕ) → IsPlace bytes.now field at → T.can test.now bytes.now at }
+    ensures { LeastOf (FailsAt bytes.now field (T.bad bytes.now)) result }
+{
+    for t in 0..Block::End.number() {
+        if has_field(field, t) {
+            match first_in_block(bytes, field, t, test) {
+                Some(found) => return Some(found),
+                None => {}
+            }
+        }
+    }
+    None
+}
