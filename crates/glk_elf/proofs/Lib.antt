@@ -1,0 +1,5 @@
+pub mod PlaceLemmas
+pub mod PlacingLemmas
+pub mod PartLemmas
+pub mod FillLemmas
+pub mod LengthLemmas
