@@ -1,0 +1,112 @@
+-- The image is the only one.
+use Rattle.std.proofs.Common.{◌≡◌, ◌<◌, ◌≤◌, ℕ, List, [], length, inl, inr, Some, sym, ap, ◌∙◌, subst, arith}
+use Rattle.std.proofs.lemmas.Bool.{cases_lt, cases_eq}
+use Rattle.std.proofs.lemmas.List.{nil_from_length}
+use Rattle.glk_io.specs.Contents.{Contents, file_in}
+use Rattle.glk_elf.specs.Image.{Parts, section, elf_bytes}
+use Rattle.glk_elf.specs.Placing.{IsPlaced, text_start}
+use Rattle.glk_elf.specs.Sections.{text, written_data, tbss}
+use Rattle.glk_elf.proofs.PlacingLemmas.{placed_once}
+use Rattle.glk_link.specs.Plain.{IsPlain, IsNamesake}
+use Rattle.glk_link.specs.Reach.{IsReached, AreKept}
+use Rattle.glk_link.specs.Built.{IsBuilt}
+use Rattle.glk_link.specs.Layout.{AreAt, address_of}
+use Rattle.glk_link.specs.Contents.{IsTextFrom}
+use Rattle.glk_link.specs.Image.{IsStart, HasTextAlone, IsImageOf, IsLinkable, IsImage}
+use Rattle.glk_link.proofs.Derivations.{IsReached-callee}
+use Rattle.glk_link.proofs.Each.{each}
+use Rattle.glk_link.proofs.Once.{rising_once, bare_once, at_once}
+use Rattle.glk_link.proofs.ContentOnce.{AreWhole, text_once, address_some}
+
+-- the kept definitions
+pub kept_once : (object entry xs ys : List ℕ) → AreKept object entry xs → AreKept object entry ys → xs ≡ ys
+kept_once object entry xs ys x y =
+    rising_once xs ys x.rising y.rising
+    (λ i c. y.whole i (each (IsReached object entry) xs x.sound i c))
+    (λ i c. x.whole i (each (IsReached object entry) ys y.sound i c))
+
+-- where the image starts
+pub start_once : (object entry : List ℕ) (i j : ℕ) → IsPlain object → IsStart object entry i → IsStart object entry j → i ≡ j
+start_once object entry i j plain x y =
+    elim (cases_lt i j) [
+      | inl l ↦ absurd (plain.once i j l y.is_entry.definition (namesake i j x y))
+      | inr g ↦ elim (cases_lt j i) [
+        | inl l ↦ absurd (plain.once j i l x.is_entry.definition (namesake j i y x))
+        | inr h ↦ omega arith
+      ]
+    ]
+  where
+    namesake : (a b : ℕ) → IsStart object entry a → IsStart object entry b → IsNamesake object a b
+    namesake a b s t = record {
+      name = s.is_entry.named ∙ sym t.is_entry.named;
+      abi = let below = s.first b t.is_entry in let above = t.first a s.is_entry in omega arith;
+    }
+
+-- what the kept definitions call has an address
+pub kept_whole : (object entry kept addrs : List ℕ) → AreKept object entry kept → AreAt object text_start kept addrs
+    → ((i : ℕ) → IsReached object entry i → IsBuilt object i) → AreWhole object (address_of kept addrs) kept
+kept_whole object entry kept addrs k at built = record {
+  built = λ i c. built i (each (IsReached object entry) kept k.sound i c);
+  targets = λ i c j t calls.
+      address_some object text_start kept addrs t at
+      (k.whole t (IsReached-callee i j t (each (IsReached object entry) kept k.sound i c) calls));
+}
+
+-- a section with no size has no bytes
+no_bytes : (p : Parts) (bytes : List ℕ) → IsPlaced p → HasTextAlone p bytes → (n : ℕ) → text < n → n ≤ written_data → (section p n).bytes ≡ []
+no_bytes p bytes placed alone n low high =
+    nil_from_length (section p n).bytes (placed.backed n (omega (arith, low)) high ∙ alone.empty n low (omega (arith, high)))
+
+-- the parts of an image with the same text and entry
+pub parts_once : (p q : Parts) (xs ys : List ℕ) → IsPlaced p → IsPlaced q → HasTextAlone p xs → HasTextAlone q ys → xs ≡ ys → p.entry ≡ q.entry → p ≡ q
+parts_once p q xs ys x y a b same entry =
+    placed_once p q x y entry (a.no_rows ∙ sym b.no_rows) sizes bytes
+  where
+    code : (section p text).bytes ≡ (section q text).bytes
+    code = a.code ∙ same ∙ sym b.code
+
+    code_size : (section p text).size ≡ (section q text).size
+    code_size = sym (x.backed text (omega arith) (omega arith)) ∙ ap length code ∙ y.backed text (omega arith) (omega arith)
+
+    sizes : (n : ℕ) → text ≤ n → n ≤ tbss → (section p n).size ≡ (section q n).size
+    sizes n low high = elim (cases_eq n text) [
+      | inl e ↦ let P : ℕ → Type 0 = λ k. (section p k).size ≡ (section q k).size in subst P (sym e) code_size
+      | inr ne ↦ a.empty n (omega (arith, low, ne)) high ∙ sym (b.empty n (omega (arith, low, ne)) high)
+    ]
+
+    bytes : (n : ℕ) → text ≤ n → n ≤ written_data → (section p n).bytes ≡ (section q n).bytes
+    bytes n low high = elim (cases_eq n text) [
+      | inl e ↦ let P : ℕ → Type 0 = λ k. (section p k).bytes ≡ (section q k).bytes in subst P (sym e) code
+      | inr ne ↦ no_bytes p xs x a n (omega (arith, low, ne)) high ∙ sym (no_bytes q ys y b n (omega (arith, low, ne)) high)
+    ]
+
+-- the image of an object
+pub image_of_once : (object entry a b : List ℕ) → IsPlain object → ((i : ℕ) → IsReached object entry i → IsBuilt object i)
+    → IsImageOf object entry a → IsImageOf object entry b → a ≡ b
+image_of_once object entry a b plain built x y =
+    let kept : y.kept ≡ x.kept = kept_once object entry y.kept x.kept y.are_kept x.are_kept in
+    let at_y : AreAt object text_start x.kept y.addrs = rw kept at y.are_at in
+    let addrs : y.addrs ≡ x.addrs = at_once object text_start x.kept y.addrs x.addrs at_y x.are_at in
+    let text_y : IsTextFrom object (address_of x.kept x.addrs) text_start x.kept x.addrs y.bytes = rw (kept, addrs) at y.is_text in
+    let bytes : x.bytes ≡ y.bytes = text_once object (address_of x.kept x.addrs) text_start x.kept x.addrs x.bytes y.bytes
+    (kept_whole object entry x.kept x.addrs x.are_kept x.are_at built) x.is_text text_y in
+    let start : y.start ≡ x.start = start_once object entry y.start x.start plain y.is_start x.is_start in
+    let starts_y : address_of x.kept x.addrs x.start ≡ Some y.parts.entry = rw (kept, addrs, start) at y.starts in
+    let entry_is : x.parts.entry ≡ y.parts.entry = some_once _ _ (sym x.starts ∙ starts_y) in
+    let parts : x.parts ≡ y.parts = parts_once x.parts y.parts x.bytes y.bytes x.placed y.placed x.sections y.sections bytes entry_is in
+    x.joined ∙ ap (λ p. elf_bytes p) parts ∙ sym y.joined
+  where
+    some_once : (m n : ℕ) → Some m ≡ Some n → m ≡ n
+    some_once m n e = cc
+
+-- the image of the files
+pub image_once : (files : Contents) (main entry a b : List ℕ) → IsImage files main entry a → IsImage files main entry b → a ≡ b
+image_once files main entry a b x y =
+    let file : y.file ≡ x.file = same_file y.file x.file y.there x.there in
+    let P : List ℕ → Type 0 = λ f. IsLinkable f y.object in
+    let object : y.object ≡ x.object = bare_once x.file y.object x.object (subst P file y.linkable).bare x.linkable.bare in
+    let Q : List ℕ → Type 0 = λ o. IsImageOf o entry b in
+    image_of_once x.object entry a b x.linkable.plain x.built x.image_of (subst Q object y.image_of)
+  where
+    same_file : (f g : List ℕ) → file_in files main ≡ Some f → file_in files main ≡ Some g → f ≡ g
+    same_file f g u v = cc

@@ -1,0 +1,16 @@
+pub mod Derivations
+pub mod Each
+pub mod Growth
+pub mod Search
+pub mod KeptLists
+pub mod OverlapSteps
+pub mod NamesakeSteps
+pub mod PlaceSteps
+pub mod Once
+pub mod ContentOnce
+pub mod FieldSteps
+pub mod TextSteps
+pub mod ImageSteps
+pub mod ImageOnce
+pub mod FirstOnce
+pub mod AnswerLemmas

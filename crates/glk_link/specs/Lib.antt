@@ -1,0 +1,14 @@
+pub mod Bare
+pub mod Flags
+pub mod Names
+pub mod Plain
+pub mod Namesakes
+pub mod Reach
+pub mod Marks
+pub mod Built
+pub mod Layout
+pub mod Contents
+pub mod Image
+pub mod First
+pub mod Answers
+pub mod Stages

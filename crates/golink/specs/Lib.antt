@@ -1,0 +1,5 @@
+pub mod Words
+pub mod First
+pub mod Answers
+pub mod Messages
+pub mod Status
