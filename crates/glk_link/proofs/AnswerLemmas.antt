@@ -52,7 +52,10 @@ complete change opts (Err (fault.Bad (cause.ReadFault path count))) h = always c
 complete change opts (Err (fault.Bad (cause.WriteFault path count))) h =
     told change.before _ _ (λ files is first first_is. due change files opts.main opts.entry None first (Err (fault.Bad (cause.WriteFault path count))) is.0 first_is (λ reads writes. absurd (writes h.3))) h.0
 complete change opts (Err (fault.Bad (cause.Absent path))) h = refusal_due change opts (cause.Absent path) (Err (fault.Bad (cause.Absent path))) refl h.0.1
-complete change opts (Err (fault.Bad (cause.NotYet f))) h = refusal_due change opts (cause.NotYet f) (Err (fault.Bad (cause.NotYet f))) refl h.1
+complete change opts (Err (fault.Bad (cause.NotYet form.Words))) h = absurd h
+complete change opts (Err (fault.Bad (cause.NotYet form.Size))) h = refusal_due change opts (cause.NotYet form.Size) (Err (fault.Bad (cause.NotYet form.Size))) refl h.1
+complete change opts (Err (fault.Bad (cause.NotYet form.Object))) h = refusal_due change opts (cause.NotYet form.Object) (Err (fault.Bad (cause.NotYet form.Object))) refl h.1
+complete change opts (Err (fault.Bad (cause.NotYet form.Symbol))) h = refusal_due change opts (cause.NotYet form.Symbol) (Err (fault.Bad (cause.NotYet form.Symbol))) refl h.1
 complete change opts (Err (fault.Bad (cause.Undefined from name))) h = refusal_due change opts (cause.Undefined from name) (Err (fault.Bad (cause.Undefined from name))) refl h.1
 complete change opts (Err fault.OutOfMemory) h = always change.before _ (λ files first first_is. no_memory first)
   where

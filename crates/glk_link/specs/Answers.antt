@@ -2,6 +2,7 @@
 use Rattle.std.specs.Prelude.{◌≡◌, ◌⊎◌, ℕ, List, Option, Some, None, Result, Ok, Err}
 use Rattle.glk_base.specs.declared.cause.Cause.{Cause}
 use Rattle.glk_base.specs.declared.cause.Cause.TheVariants as cause
+use Rattle.glk_base.specs.declared.cause.Form.TheVariants as form
 use Rattle.glk_base.specs.declared.fault.Fault.{Fault}
 use Rattle.glk_base.specs.declared.fault.Fault.TheVariants as fault
 use Rattle.glk_io.specs.Counts.{Rose}
@@ -46,7 +47,10 @@ Means change opts (Err (fault.Bad (cause.WriteFault path count))) =
     Spoiled change opts × (path ≡ opts.out) × (count ≡ change.writes_now) × Rose change.writes_before change.writes_now
 Means change opts (Err (fault.Bad (cause.Absent path))) =
     Refuses change opts (cause.Absent path) × (path ≡ opts.main) × (change.reads_now ≡ change.reads_before)
-Means change opts (Err (fault.Bad (cause.NotYet f))) = Refuses change opts (cause.NotYet f)
+Means change opts (Err (fault.Bad (cause.NotYet form.Words))) = ⊥
+Means change opts (Err (fault.Bad (cause.NotYet form.Size))) = Refuses change opts (cause.NotYet form.Size)
+Means change opts (Err (fault.Bad (cause.NotYet form.Object))) = Refuses change opts (cause.NotYet form.Object)
+Means change opts (Err (fault.Bad (cause.NotYet form.Symbol))) = Refuses change opts (cause.NotYet form.Symbol)
 Means change opts (Err (fault.Bad (cause.Undefined from name))) = Refuses change opts (cause.Undefined from name)
 Means change opts (Err fault.OutOfMemory) = Stays change.before change.now
 

@@ -36,7 +36,7 @@ means change words opts (Err (fault.Bad (cause.ReadFault path count))) order m =
 means change words opts (Err (fault.Bad (cause.WriteFault path count))) order m = ((opts, order, (m.0, m.1)), m.2, m.3)
 means change words opts (Err (fault.Bad (cause.Absent path))) order m =
     (refuses change words opts (cause.Absent path) order m.0, (opts, order, m.1), m.2)
-means change words opts (Err (fault.Bad (cause.NotYet form.Words))) order m = refuses change words opts (cause.NotYet form.Words) order m
+means change words opts (Err (fault.Bad (cause.NotYet form.Words))) order m = absurd m
 means change words opts (Err (fault.Bad (cause.NotYet form.Size))) order m =
     (refuses change words opts (cause.NotYet form.Size) order m, (opts, order, tt))
 means change words opts (Err (fault.Bad (cause.NotYet form.Object))) order m =

@@ -9,7 +9,7 @@ use Rattle.glk_io.specs.Counts.{Rose}
 use Rattle.glk_io.specs.Contents.{WhereTold, Stays}
 use Rattle.glk_link.specs.Answers.{Change, Linked, Spoiled}
 use Rattle.glk_link.specs.declared.options.LinkOptions.{LinkOptions}
-use Rattle.golink.specs.Words.{IsOrder}
+use Rattle.golink.specs.Words.{IsOrder, IsNoOrder}
 use Rattle.golink.specs.First.{IsFirst}
 use Rattle.golink.specs.declared.outcome.Outcome.{Outcome}
 use Rattle.golink.specs.declared.outcome.Outcome.TheVariants as outcome
@@ -39,7 +39,8 @@ Means change words (outcome.Refused (cause.WriteFault path count)) =
 Means change words (outcome.Refused (cause.Absent path)) =
     Refuses change words (cause.Absent path) × Ordered words (λ opts. path ≡ opts.main)
     × (change.reads_now ≡ change.reads_before)
-Means change words (outcome.Refused (cause.NotYet form.Words)) = Refuses change words (cause.NotYet form.Words)
+Means change words (outcome.Refused (cause.NotYet form.Words)) =
+    Refuses change words (cause.NotYet form.Words) × IsNoOrder words
 Means change words (outcome.Refused (cause.NotYet f)) = Refuses change words (cause.NotYet f) × HasOrder words
 Means change words (outcome.Refused (cause.Undefined from name)) =
     Refuses change words (cause.Undefined from name) × HasOrder words

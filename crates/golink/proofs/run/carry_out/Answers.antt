@@ -5,7 +5,7 @@ use Rattle.golink.proofs.AnswerLemmas.{refused_words, means, complete}
 use Rattle.golink.proofs.run.carry_out.Goals as goal
 
 pub returns-in_default-clause-headline : goal.returns-in_default-clause-headline
-returns-in_default-clause-headline g c = (refl, refused_words _ _ c.in_default.ensures.none)
+returns-in_default-clause-headline g c = ((refl, refused_words _ _ c.in_default.ensures.none), c.in_default.ensures.none)
 
 pub returns-in_default-options-clause-no_order : goal.returns-in_default-options-clause-no_order
 returns-in_default-options-clause-no_order g c = λ none. absurd (none (options_of c.in-Some.order) c.in-Some.ensures.order)
