@@ -1,0 +1,3 @@
+pub mod Methodoffs
+mod Targets
+mod Varints

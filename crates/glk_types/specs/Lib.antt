@@ -1,0 +1,6 @@
+pub mod Abi
+pub mod Places
+pub mod Varint
+pub mod Names
+pub mod Types
+pub mod Rules
