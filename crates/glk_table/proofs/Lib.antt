@@ -1,0 +1,12 @@
+pub mod Answering
+pub mod Folds
+pub mod Forks
+pub mod Members
+pub mod Opening
+pub mod Pigeon
+pub mod RankOrder
+pub mod Sights
+pub mod Filled
+pub mod Filling
+pub mod Steps
+pub mod Tallies

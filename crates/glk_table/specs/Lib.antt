@@ -1,0 +1,7 @@
+pub mod Elections
+pub mod Keys
+pub mod Naming
+pub mod Ranks
+pub mod Rule
+pub mod Seats
+pub mod Tested
