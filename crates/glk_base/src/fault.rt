@@ -14,6 +14,13 @@ pub enum Fault<E> {
 #[derive(Clone, Copy, Debug, PartialEq, Eq)]
 pub struct OutOfMemory;
 
+/// What was asked for is larger than its format or golink's limit allows.
+#[derive(Clone, Copy, Debug, PartialEq, Eq)]
+pub struct TooBig {
+    /// The length in bytes that the answer would have, or 2^64 - 1 where that is greater.
+    pub number: u64,
+}
+
 impl From<AllocError> for OutOfMemory {
     fn from(_: AllocError) -> Self {
         OutOfMemory

@@ -1,0 +1,4 @@
+pub mod FlagWords
+pub mod Cuts
+pub mod Decimals
+pub mod Escapes
