@@ -1,9 +1,9 @@
 -- Pieces that stand in a sink, one after the other.
-use Rattle.std.proofs.Common.{◌≡◌, ◌≤◌, length-append, ℕ, ◌+◌, List, ◌++◌, take, drop, length, ◌-◌, Option, Some, None, Result, Ok, Err, OnErr, refl, append_assoc, arith}
+use Rattle.std.proofs.Common.{◌≡◌, ◌≤◌, ◌<◌, length-append, ℕ, ◌+◌, List, [], ◌∷◌, ◌++◌, get_or, Bor, sym, ap, ◌∙◌, add-one, take, drop, length, ◌-◌, Option, Some, None, Result, Ok, Err, OnErr, refl, append_assoc, arith}
 use Rattle.std.specs.Io.KnownBytes.{Appends}
-use Rattle.std.proofs.Math.Seq.{take-add, take-append-add}
-use Rattle.std.proofs.lemmas.List.{take-append-le}
-use Rattle.glk_io.specs.Streams.{AppendsFront}
+use Rattle.std.proofs.Math.Seq.{take-add, take-append-add, take-suc}
+use Rattle.std.proofs.lemmas.List.{take-append-le, take-append-drop, append-nil}
+use Rattle.glk_io.specs.Streams.{AppendsFront, joined}
 use Rattle.std.proofs.lemmas.Grind.{common_steps}
 
 -- a front of i bytes, and after it n more
@@ -45,3 +45,28 @@ front_right a b c xs ys h f =
 pub on_err : {T E : Type 0} (r : Result T E) (P : Type 0) → P → OnErr r P
 on_err (Ok x) P p = tt
 on_err (Err e) P p = p
+
+-- pieces one after the other, and those of a front with one more
+pub joined_append : (ps qs : List (Bor (List ℕ))) → joined (ps ++ qs) ≡ joined ps ++ joined qs
+joined_append [] qs = refl
+joined_append (p ∷ ps) qs = rw (joined_append ps qs) (sym (append_assoc p.now (joined ps) (joined qs)))
+
+pub joined_more : (ps : List (Bor (List ℕ))) (n : ℕ) (d : Bor (List ℕ)) → n < length ps → joined (take (n + 1) ps) ≡ joined (take n ps) ++ (get_or ps n d).now
+joined_more ps n d inside =
+    let cut : take (n + 1) ps ≡ take n ps ++ get_or ps n d ∷ [] = rw (add-one n) (take-suc ps n d inside) in
+    rw cut (joined_append (take n ps) (get_or ps n d ∷ []) ∙ ap (λ x. joined (take n ps) ++ x) (append-nil (get_or ps n d).now))
+
+-- all pieces are a front of them and the rest
+pub joined_split : (ps : List (Bor (List ℕ))) (n : ℕ) → joined ps ≡ joined (take n ps) ++ joined (drop n ps)
+joined_split ps n = ap joined (sym (take-append-drop n ps)) ∙ joined_append (take n ps) (drop n ps)
+
+module _ (a b c : Option (List ℕ)) (ps : List (Bor (List ℕ))) (n : ℕ) (d : Bor (List ℕ)) (inside : n < length ps) where
+  -- one more piece
+  pub one_more : Appends a b (joined (take n ps)) → Appends b c (get_or ps n d).now → Appends a c (joined (take (n + 1) ps))
+  one_more h k = rw (joined_more ps n d inside) (both_whole a b c (joined (take n ps)) (get_or ps n d).now h k)
+
+  -- a front of one more piece is a front of all
+  pub one_front : Appends a b (joined (take n ps)) → AppendsFront b c (get_or ps n d).now → AppendsFront a c (joined ps)
+  one_front h f =
+      let g : AppendsFront a c (joined (take (n + 1) ps)) = rw (joined_more ps n d inside) (front_right a b c (joined (take n ps)) (get_or ps n d).now h f) in
+      rw (joined_split ps (n + 1)) (front_left a c (joined (take (n + 1) ps)) (joined (drop (n + 1) ps)) g)

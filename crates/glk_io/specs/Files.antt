@@ -32,11 +32,11 @@ ReadsUpTo (Some left) max (Err read.Failed) = ⊤
 ReadsUpTo (Some left) max (Err read.Absent) = ⊥
 ReadsUpTo (Some left) max (Err read.OutOfMemory) = ⊤
 
--- the count of reads never falls, a failure comes only where it rose, and an absent file raises nothing
+-- the count of reads never falls; a failure comes only where it rose, and every other answer leaves it
 pub record HasReadCause (before now : ℕ) (result : Result (Vec ℕ Global) ReadError) : Type 0 where
   pub later : before ≤ now
   pub failed : IsErrOf result read.Failed → Rose before now
-  pub absent : IsErrOf result read.Absent → now ≡ before
+  pub others : (IsErrOf result read.Failed → ⊥) → now ≡ before
 
 -- a count of reads after a read: one more exactly where the read failed
 abbrev pub count_after_read : ℕ → Result (Vec ℕ Global) ReadError → ℕ

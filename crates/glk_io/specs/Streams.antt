@@ -1,5 +1,6 @@
 -- What sources and sinks answer.
-use Rattle.std.specs.Prelude.{ℕ, ◌≤◌, List, Option, Result, OnErr, take, length}
+use Rattle.std.specs.Prelude.{ℕ, ◌≤◌, List, [], ◌∷◌, ◌++◌, Option, Result, OnErr, take, length}
+use Rattle.std.specs.Borrow.{Bor}
 use Rattle.std.specs.Io.KnownBytes.{Appends}
 use Rattle.glk_io.specs.Counts.{Rose}
 
@@ -12,3 +13,8 @@ pub record HasCause {T E : Type 0} (before now : ℕ) (result : Result T E) : Ty
 abbrev pub AppendsFront : Option (List ℕ) → Option (List ℕ) → List ℕ → Type 0
 AppendsFront before now bytes =
     (kept : ℕ) × (kept ≤ length bytes) × Appends before now (take kept bytes)
+
+-- pieces, one after the other
+abbrev pub joined : List (Bor (List ℕ)) → List ℕ
+joined [] = []
+joined (piece ∷ more) = piece.now ++ joined more

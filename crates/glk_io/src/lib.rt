@@ -1,10 +1,12 @@
-//! The outside: files, sources and sinks as traits, in memory and over the system.
+//! The outside: files, sources and sinks as traits, in memory and over the system; and the gate
+//! that workers pass.
 //!
 //! What an object holds is optional: memory tells it, a real file or stream does not, and what is
 //! said of contents holds where they are told. Each trait has counts of faults that never fall.
 #![tactic(auto)]
 
 mod files;
+mod gate;
 mod memory;
 mod memory_streams;
 mod paths;
@@ -14,7 +16,8 @@ mod system;
 mod tests;
 
 pub use files::{Files, ReadError, WriteError};
+pub use gate::{Gate, Open};
 pub use memory::{CallFail, MemFiles};
 pub use memory_streams::{MemSink, MemSource};
-pub use streams::{Failed, Sink, Source, write_all};
+pub use streams::{Failed, Sink, Source, write_all, write_pieces};
 pub use system::{OsFiles, OsSink, OsSource};

@@ -3,7 +3,7 @@ ghost use Rattle.std.specs.Prelude.{◌≡◌, ◌<◌, ◌≤◌, ℕ, List, Op
 ghost use Rattle.std.specs.Io.{ReadsAtMost, WritesAtMost};
 ghost use Rattle.std.specs.Io.KnownBytes.{Appends, ReadConsumes, WriteAppends};
 ghost use Rattle.glk_io.specs.Counts.{Rose};
-ghost use Rattle.glk_io.specs.Streams.{HasCause, AppendsFront};
+ghost use Rattle.glk_io.specs.Streams.{HasCause, AppendsFront, joined};
 
 /// A read or a write failed, and the count of faults rose.
 #[derive(Clone, Copy, Debug, PartialEq, Eq)]
@@ -60,6 +60,20 @@ pub fn write_all<S: Sink>(sink: &mut S, piece: &[u8]) -> Result<(), Failed>
     let mut at = 0;
     while at < piece.len() {
         at += sink.write(&piece[at..])?;
+    }
+    Ok(())
+}
+
+/// Writes the pieces one after the other, or a front of all of them where the sink fails. It takes
+/// no memory.
+pub fn write_pieces<S: Sink>(sink: &mut S, pieces: &[&[u8]]) -> Result<(), Failed>
+    ensures whole { OnOk result (Appends (S.held sink.old) (S.held sink.new) (joined pieces.now)) }
+    ensures front { OnErr result (AppendsFront (S.held sink.old) (S.held sink.new) (joined pieces.now)) }
+    ensures cause { OnErr result (Rose (S.fault_count sink.old) (S.fault_count sink.new)) }
+    ensures later { S.fault_count sink.old ≤ S.fault_count sink.new }
+{
+    for piece in pieces {
+        write_all(sink, piece)?;
     }
     Ok(())
 }

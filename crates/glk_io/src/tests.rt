@@ -1,7 +1,7 @@
 // Each public call once, with memory.
 use super::{
-    CallFail, Failed, Files, MemFiles, MemSink, MemSource, OsFiles, OsSink, OsSource, ReadError,
-    Sink, Source, WriteError, write_all,
+    CallFail, Failed, Files, Gate, MemFiles, MemSink, MemSource, Open, OsFiles, OsSink, OsSource,
+    ReadError, Sink, Source, WriteError, write_all,
 };
 use glk_base::{StrText, Text};
 use std::alloc::Global;
@@ -234,4 +234,10 @@ fn a_sink_writes_as_its_writer(rt: HostRuntime) {
     assert_eq!(rt; sink.write(b"e"), Err(Failed));
     assert_eq!(rt; sink.faults(), 1);
     assert_eq!(rt; bytes, *b"abcd");
+}
+
+#[test]
+fn the_open_gate_lets_pass(_rt: HostRuntime) {
+    Open.pass(0);
+    Open.left(0, 7);
 }
