@@ -1,0 +1,4 @@
+pub mod Digits
+pub mod Front
+pub mod Once
+pub mod WrittenLemmas

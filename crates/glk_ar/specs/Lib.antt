@@ -1,0 +1,9 @@
+pub mod Member
+pub mod Rules
+pub mod Archive
+pub mod Walk
+pub mod Walks
+pub mod Part
+pub mod Parts
+pub mod Written
+pub mod Laws
