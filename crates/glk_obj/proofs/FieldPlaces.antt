@@ -3,7 +3,7 @@ use Rattle.std.proofs.Common.{◌≢◌, ◌+◌, ◌*◌, ◌<◌, ◌≤◌, �
 use Rattle.std.proofs.Math.Nat.{mul-le-mul_left}
 use Rattle.glk_obj.specs.declared.fields.Field.{Field}
 use Rattle.glk_obj.specs.declared.fields.Field.TheVariants.{Text, Target}
-use Rattle.glk_obj.specs.Least.{IsLeast, InSomeGroup}
+use Rattle.glk_base.specs.Least.{IsLeast, InSomeGroup}
 use Rattle.glk_obj.specs.Blocks.{offset_of, count, width_of, hash, end}
 use Rattle.glk_obj.specs.Laid.{Laid}
 use Rattle.glk_obj.specs.Fields.{HasField, shift_of, field_place, FailsAt, FailsIn}

@@ -1,7 +1,7 @@
 -- What it says that the first rules are not broken.
 use Rattle.std.proofs.Common.{◌≡◌, ◌≢◌, ◌+◌, ◌-◌, ◌*◌, ◌%◌, ◌<◌, ◌≤◌, inl, inr, ℕ, List, length, arith, subst, sym, refl, zero, suc}
 use Rattle.std.proofs.lemmas.Bool.{cases_lt, cases_eq}
-use Rattle.glk_obj.specs.Least.{IsLeast}
+use Rattle.glk_base.specs.Least.{IsLeast}
 use Rattle.glk_obj.specs.Blocks.{header_place, header_length, offset_of, width_of, count, extent_of, fill_of, hash, end}
 use Rattle.glk_obj.specs.Laid.{Laid}
 use Rattle.glk_obj.specs.Rules.{Breaks, Intact, IsFirst}

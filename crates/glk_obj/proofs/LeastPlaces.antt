@@ -1,7 +1,7 @@
 -- The least place of a fault, over records and over blocks.
 use Rattle.std.proofs.Common.{◌≡◌, ◌+◌, ◌<◌, ◌≤◌, inl, inr, ℕ, List, arith, subst, sym, refl}
 use Rattle.std.proofs.lemmas.Bool.{cases_lt}
-use Rattle.glk_obj.specs.Least.{IsLeast, BadRecord, InSomeGroup}
+use Rattle.glk_base.specs.Least.{IsLeast, BadRecord, InSomeGroup}
 use Rattle.glk_obj.specs.Blocks.{offset_of, end}
 use Rattle.glk_obj.specs.Laid.{Laid}
 use Rattle.glk_obj.proofs.BlockOrder.{offset_mono}

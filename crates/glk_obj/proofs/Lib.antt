@@ -6,5 +6,8 @@ pub mod FieldPlaces
 pub mod SymbolPlaces
 pub mod TablePlaces
 pub mod RelocPlaces
+pub mod ZeroPlaces
+pub mod KindNumbers
+pub mod NumberLines
 pub mod Objects
 pub mod Laws

@@ -2,7 +2,7 @@
 use Rattle.std.specs.Prelude.{◌≡◌, ◌+◌, ◌*◌, ◌<◌, ◌≤◌, ◌==◌, ◌⊎◌, ℕ, List, if◌then◌else◌}
 use Rattle.glk_obj.specs.declared.fields.Field.{Field}
 use Rattle.glk_obj.specs.declared.fields.Field.TheVariants.{Text, Target}
-use Rattle.glk_obj.specs.Least.{BadRecord}
+use Rattle.glk_base.specs.Least.{BadRecord}
 use Rattle.glk_obj.specs.Blocks.{offset_of, width_of, count, nonpkgref, ref_flags, reloc, aux, ref_name}
 
 -- The blocks whose records have the field: strings stand in Autolib, PkgIdx, File, the five blocks of

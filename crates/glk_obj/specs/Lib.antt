@@ -2,11 +2,14 @@ pub mod Blocks
 pub mod Packages
 pub mod Records
 pub mod References
-pub mod Least
 pub mod Laid
 pub mod Fields
 pub mod Rules
 pub mod Object
 pub mod Positive
+pub mod FuncInfos
 pub mod Views
 pub mod TargetTest
+pub mod NextZeros
+pub mod Numbers
+pub mod NumberSteps

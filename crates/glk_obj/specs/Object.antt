@@ -2,7 +2,7 @@
 use Rattle.std.specs.Prelude.{◌≡◌, ◌≤◌, ℕ, List, slice_index}
 use Rattle.glk_obj.specs.Blocks.{offset_of, end}
 use Rattle.glk_obj.specs.Laid.{Laid}
-use Rattle.glk_obj.specs.Least.{Nowhere}
+use Rattle.glk_base.specs.Least.{Nowhere}
 use Rattle.glk_obj.specs.Positive.{Indexed}
 use Rattle.glk_obj.specs.Rules.{IsShort, HasOtherMagic, HasMisplacedBlock, EndsLate, HasUnevenBlock, IsUnlinkable, HasOddHash64, HasOddHash, HasShortTable, HasBadEntry, HasLongText, HasZeroText, HasWildTarget, HasLongData, HasStrayReloc, HasOddAlign}
 

@@ -4,7 +4,7 @@ use Rattle.std.specs.List.{starts_with}
 use Rattle.std.specs.Int.{IsBitSet}
 use Rattle.glk_base.specs.Bytes.{number_at}
 use Rattle.glk_obj.specs.declared.fields.Field.TheVariants.{Text, Target}
-use Rattle.glk_obj.specs.Least.{IsLeast, BadRecord, InSomeGroup}
+use Rattle.glk_base.specs.Least.{IsLeast, BadRecord, InSomeGroup}
 use Rattle.glk_obj.specs.Blocks.{magic, flags_place, header_place, header_length, width_of, offset_of, extent_of, count, hashed64def, hasheddef, hash64, hash, reloc_idx, data_idx, reloc, end}
 use Rattle.glk_obj.specs.Records.{symbols, definitions, flags, symbol_at, symbol_place, entry_place, entry_at, data_length, reloc_count, reloc_place, reloc_at}
 use Rattle.glk_obj.specs.References.{PassesEnd, HoldsZero, IsWild}

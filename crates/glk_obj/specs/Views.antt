@@ -7,9 +7,11 @@ use Rattle.glk_obj.specs.declared.records.SymRef.{SymRef}
 use Rattle.glk_obj.specs.declared.records.RelocRec.{RelocRec}
 use Rattle.glk_obj.specs.declared.records.AuxRec.{AuxRec}
 use Rattle.glk_obj.specs.declared.records.RefFlagsRec.{RefFlagsRec}
+use Rattle.glk_obj.specs.declared.funcinfo.InlNode.{InlNode}
 use Rattle.glk_obj.specs.declared.view.ObjShape.{ObjShape}
 use Rattle.glk_obj.specs.Blocks.{autolib, pkg_idx, file, symdef, hashed64def, hasheddef, nonpkgdef, nonpkgref, ref_flags, hash64, hash, reloc_idx, aux_idx, data_idx, reloc, aux, contents, ref_name, end}
 use Rattle.glk_obj.specs.Records.{Symbol, SymbolRef, Reloc, Aux, RefFlag}
+use Rattle.glk_obj.specs.FuncInfos.{Node}
 use Rattle.glk_obj.specs.Object.{Fits}
 
 -- the number of a block
@@ -48,6 +50,9 @@ aux_view a = record { kind = a.kind; target = ref_view a.target }
 
 abbrev pub ref_flags_view : RefFlagsRec → RefFlag
 ref_flags_view r = record { target = ref_view r.target; flag = r.flag; flag2 = r.flag2 }
+
+abbrev pub node_view : InlNode → Node
+node_view n = record { parent = n.parent; file = n.file; line = n.line; func = ref_view n.func; parent_pc = n.parent_pc }
 
 -- The bytes are an object, and this is what their header says.
 abbrev pub IsShapeOf : List ℕ → ObjShape → Type 0

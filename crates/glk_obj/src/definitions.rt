@@ -2,7 +2,7 @@
 ghost use Rattle.std.specs.Prelude.{◌≡◌, ◌+◌, ◌*◌, ◌<◌, ◌≤◌, ◌^◌, ◌↔◌, ℕ, length, IsTrue, OnOk, IfErr, OnErr};
 ghost use Rattle.glk_obj.specs.Blocks.{offset_of, symdef, reloc, reloc_idx, data_idx, symbol_width, entry_width, reloc_width};
 ghost use Rattle.glk_obj.specs.Laid.{Laid};
-ghost use Rattle.glk_obj.specs.Least.{LeastOf};
+ghost use Rattle.glk_base.specs.Least.{LeastOf};
 ghost use Rattle.glk_obj.specs.Object.{IsObject};
 ghost use Rattle.glk_obj.specs.Positive.{Indexed};
 ghost use Rattle.glk_obj.specs.Records.{definitions as definitions_of, symbols as symbols_of, symbol_at, symbol_place as symbol_place_of, entry_place as entry_place_of, reloc_index, reloc_count, reloc_place as reloc_place_of};
@@ -193,8 +193,7 @@ fn check_content(bytes: &[u8]) -> Result<(), ObjBad>
     Ok(())
 }
 
-/// The first broken rule of all, if there is one. Its time is linear in the object and in the total
-/// length of the strings that its records name.
+/// The first broken rule of all, if there is one. Its time is that of `ObjShape::check`.
 pub(crate) fn check(bytes: &[u8]) -> Result<(), ObjBad>
     ensures ok { OnOk result (Intact bytes.now 16) }
     ensures laid { OnOk result (Laid bytes.now) }

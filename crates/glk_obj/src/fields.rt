@@ -3,7 +3,7 @@ ghost use Rattle.std.specs.Prelude.{◌≡◌, ◌≢◌, ◌+◌, ◌*◌, ◌<
 ghost use Rattle.glk_obj.specs.Blocks.{offset_of, width_of, count as count_of, hash, ref_name};
 ghost use Rattle.glk_obj.specs.Fields.{HasField, shift_of, field_place as field_place_of, IsPlace, FailsAt, FailsIn};
 ghost use Rattle.glk_obj.specs.Laid.{Laid};
-ghost use Rattle.glk_obj.specs.Least.{LeastOf};
+ghost use Rattle.glk_base.specs.Least.{LeastOf};
 
 use crate::blocks::{Block, count_at, offset_at, width_at};
 
@@ -14,15 +14,18 @@ pub(crate) enum Field {
     Target,
 }
 
-/// A test of the field that stands at a place.
+/// A test of the field that stands at a place. It may know something of the object.
 pub(crate) trait FieldTest {
-    ghost can: { Self → List ℕ → ℕ → Type 0 };
+    ghost knows: { Self → List ℕ → Type 0 };
+
+    ghost can: { List ℕ → ℕ → Type 0 };
 
     ghost bad: { List ℕ → ℕ → Type 0 };
 
     fn fails(&self, bytes: &[u8], at: usize) -> bool
         requires room { at + 8 ≤ length bytes.now }
-        requires can { can self.now bytes.now at }
+        requires knows { knows self.now bytes.now }
+        requires can { can bytes.now at }
         ensures { IsTrue result ↔ bad bytes.now at };
 }
 
@@ -96,7 +99,8 @@ fn first_in_block<T: FieldTest>(bytes: &[u8], field: Field, t: usize, test: &T) 
     requires block { HasField field t }
     requires inside { t ≤ ref_name }
     requires fixed { t ≢ hash }
-    requires can { (at : ℕ) → IsPlace bytes.now field at → T.can test.now bytes.now at }
+    requires knows { T.knows test.now bytes.now }
+    requires can { (at : ℕ) → IsPlace bytes.now field at → T.can bytes.now at }
     ensures { LeastOf (FailsIn bytes.now field (T.bad bytes.now) t) result }
 {
     let start = offset_at(bytes, t);
@@ -114,7 +118,8 @@ fn first_in_block<T: FieldTest>(bytes: &[u8], field: Field, t: usize, test: &T) 
 /// The first place at which the test fails.
 pub(crate) fn first_failing<T: FieldTest>(bytes: &[u8], field: Field, test: &T) -> Option<u64>
     requires laid { Laid bytes.now }
-    requires can { (at : ℕ) → IsPlace bytes.now field at → T.can test.now bytes.now at }
+    requires knows { T.knows test.now bytes.now }
+    requires can { (at : ℕ) → IsPlace bytes.now field at → T.can bytes.now at }
     ensures { LeastOf (FailsAt bytes.now field (T.bad bytes.now)) result }
 {
     for t in 0..Block::End.number() {

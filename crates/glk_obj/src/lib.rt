@@ -9,6 +9,9 @@
 mod blocks;
 mod definitions;
 mod fields;
+mod funcinfo;
+mod kinds;
+mod numbers;
 mod packages;
 mod places;
 mod records;
@@ -18,8 +21,12 @@ mod tables;
 #[cfg(test)]
 mod tests;
 mod view;
+mod zeros;
 
 pub use blocks::Block;
+pub use funcinfo::{FuncInfo, InlNode};
+pub use kinds::RelocKind;
+pub use numbers::Numbers;
 pub use packages::{
     BUILTIN_PACKAGE, HASHED_PACKAGE, HASHED64_PACKAGE, NIL_PACKAGE, NONE_PACKAGE, SELF_PACKAGE,
 };

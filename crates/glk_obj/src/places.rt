@@ -208,7 +208,7 @@ pub(crate) fn hash_part(bytes: &[u8], start: u32, extent: u32, hashes: u32, k: u
 }
 
 /// Where record `k` of RefName stands, the block being at `start`.
-fn ref_name_place(bytes: &[u8], start: u32, k: u32) -> usize
+pub(crate) fn ref_name_place(bytes: &[u8], start: u32, k: u32) -> usize
     requires object { IsObject bytes.now }
     requires laid { Laid bytes.now }
     requires start { start ≡ offset_of bytes.now ref_name_block }

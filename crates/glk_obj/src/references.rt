@@ -1,34 +1,50 @@
 // What stands in a field of a record: a string that is named, or a symbol that is meant.
-ghost use Rattle.std.specs.Prelude.{◌≡◌, ◌+◌, ◌<◌, ◌≤◌, ◌↔◌, ℕ, length, IsTrue};
+ghost use Rattle.std.specs.Prelude.{◌≡◌, ◌+◌, ◌<◌, ◌≤◌, ◌↔◌, ℕ, length, slice_range, IsTrue};
 ghost use Rattle.glk_obj.specs.Laid.{Laid};
 ghost use Rattle.glk_obj.specs.Records.{text_at};
 ghost use Rattle.glk_obj.specs.References.{PassesEnd, HoldsZero, IsWild};
 ghost use Rattle.glk_obj.specs.TargetTest.{IsTestFor};
+ghost use Rattle.glk_obj.specs.NextZeros.{IsZeroTable};
 
 use crate::blocks::{Block, count};
 use crate::fields::FieldTest;
 use crate::packages::{
     BUILTIN_PACKAGE, HASHED_PACKAGE, HASHED64_PACKAGE, NIL_PACKAGE, NONE_PACKAGE, SELF_PACKAGE,
 };
+use crate::zeros::has_zero;
 use glk_base::le32;
 
-/// The string that is named here.
+/// Where the string that is named here begins and ends.
 #[tactic(auto, unfolding(crate::specs::Records::text_at, crate::specs::References::PassesEnd))]
+fn text_range(bytes: &[u8], at: usize) -> (usize, usize)
+    requires room { at + 8 ≤ length bytes.now }
+    requires inside { PassesEnd bytes.now at → ⊥ }
+    ensures text { text_at bytes.now at ≡ slice_range bytes.now result.0 result.1 }
+    ensures order { result.0 ≤ result.1 }
+    ensures within { result.1 ≤ length bytes.now }
+{
+    let from = le32(bytes, at + 4).unwrap() as usize;
+    (from, from + le32(bytes, at).unwrap() as usize)
+}
+
+/// The string that is named here.
 pub(crate) fn text(bytes: &[u8], at: usize) -> &[u8]
     requires room { at + 8 ≤ length bytes.now }
     requires inside { PassesEnd bytes.now at → ⊥ }
     ensures { result.now ≡ text_at bytes.now at }
 {
-    let start = le32(bytes, at + 4).unwrap() as usize;
-    let end = start + le32(bytes, at).unwrap() as usize;
-    &bytes[start..end]
+    let (from, to) = text_range(bytes, at);
+    &bytes[from..to]
 }
 
 /// A string ends past the object's end.
+#[derive(Drop)]
 pub(crate) struct LongText;
 
 impl FieldTest for LongText {
-    ghost can = { λ _ _ _. Unit {0} };
+    ghost knows = { λ _ _. Unit {0} };
+
+    ghost can = { λ _ _. Unit {0} };
 
     ghost bad = { PassesEnd };
 
@@ -39,17 +55,24 @@ impl FieldTest for LongText {
     }
 }
 
-/// A string has a zero byte.
-pub(crate) struct ZeroText;
+/// A string has a zero byte. The table tells where zero bytes stand, so a string that millions of
+/// records share is not read for each of them.
+#[derive(Drop)]
+pub(crate) struct ZeroText<'t> {
+    pub(crate) width: usize,
+    pub(crate) table: &'t [usize],
+}
 
-impl FieldTest for ZeroText {
-    ghost can = { λ _ b at. PassesEnd b at → ⊥ };
+impl<'t> FieldTest for ZeroText<'t> {
+    ghost knows = { λ test b. IsZeroTable b test.width test.table.now };
+
+    ghost can = { λ b at. PassesEnd b at → ⊥ };
 
     ghost bad = { HoldsZero };
 
-    #[tactic(auto, unfolding(crate::specs::References::HoldsZero))]
     fn fails(&self, bytes: &[u8], at: usize) -> bool {
-        text(bytes, at).contains(&0)
+        let (from, to) = text_range(bytes, at);
+        has_zero(bytes, from, to, self.width, self.table)
     }
 }
 
@@ -84,7 +107,9 @@ impl WildTarget {
 }
 
 impl FieldTest for WildTarget {
-    ghost can = { λ test b _. IsTestFor b test };
+    ghost knows = { λ test b. IsTestFor b test };
+
+    ghost can = { λ _ _. Unit {0} };
 
     ghost bad = { IsWild };
 

@@ -2,10 +2,10 @@
 ghost use Rattle.std.specs.Prelude.{◌≡◌, ◌+◌, ◌-◌, ◌*◌, ◌<◌, ◌≤◌, ◌^◌, ◌↔◌, ℕ, length, OnOk, IfErr, OnErr, IsTrue};
 ghost use Rattle.glk_obj.specs.Blocks.{header_length, end, offset_of};
 ghost use Rattle.glk_obj.specs.Laid.{Laid};
-ghost use Rattle.glk_obj.specs.Least.{LeastOf};
+ghost use Rattle.glk_base.specs.Least.{LeastOf};
 ghost use Rattle.glk_obj.specs.Object.{IsObject};
 ghost use Rattle.glk_obj.specs.Records.{definitions as definitions_of, symbols as symbols_of};
-ghost use Rattle.glk_obj.specs.Rules.{IsShort, HasOtherMagic, HasMisplacedBlock, EndsLate, HasUnevenBlock, IsUnlinkable, HasOddHash64, shortest_hash, longest_hash, HashesFit, HasOddHash, HasShortTable, Breaks, Intact, IsFirst};
+ghost use Rattle.glk_obj.specs.Rules.{IsShort, HasOtherMagic, HasMisplacedBlock, EndsLate, HasUnevenBlock, IsUnlinkable, HasOddHash64, shortest_hash, longest_hash, HashesFit, HasOddHash, HasShortTable, HasZeroText, Breaks, Intact, IsFirst};
 
 use crate::blocks::{
     BLOCKS, Block, FLAGS, HEADER_LENGTH, SYMBOL_WIDTH, count, count_at, header_place, offset,
@@ -14,6 +14,7 @@ use crate::blocks::{
 use crate::fields::{Field, first_failing};
 use crate::references::{LongText, WildTarget, ZeroText};
 use crate::tables::bad_entry;
+use crate::zeros::{block_width, note_zeros};
 use glk_base::le32;
 
 /// The first broken rule of an object, and where it is broken.
@@ -239,6 +240,58 @@ pub(crate) fn check_numbers(bytes: &[u8]) -> Result<(), ObjBad>
     Ok(())
 }
 
+/// How many blocks an object is cut into at most, for the table of its zero bytes.
+const BLOCKS_OF_ZEROS: usize = 16_384;
+/// The same of a small object.
+const FEW_BLOCKS_OF_ZEROS: usize = 256;
+/// How long a small object is at most.
+const SMALL: usize = 1 << 16;
+
+/// V12, with a table that has so many places.
+fn zero_text_with(bytes: &[u8], table: &mut [usize]) -> Option<u64>
+    requires before { Intact bytes.now 11 }
+    requires laid { Laid bytes.now }
+    requires room { 0 < length table.old }
+    ensures { LeastOf (HasZeroText bytes.now) result }
+{
+    let width = block_width(bytes.len(), table.len());
+    note_zeros(bytes, width, table);
+    first_failing(bytes, Field::Text, &ZeroText { width, table })
+}
+
+/// V12 of a small object: thousands are checked in a link, so it pays for no large table.
+#[inline(never)]
+fn zero_text_of_small(bytes: &[u8]) -> Option<u64>
+    requires before { Intact bytes.now 11 }
+    requires laid { Laid bytes.now }
+    ensures { LeastOf (HasZeroText bytes.now) result }
+{
+    zero_text_with(bytes, &mut [0; FEW_BLOCKS_OF_ZEROS])
+}
+
+/// V12 of any object.
+#[inline(never)]
+fn zero_text_of_large(bytes: &[u8]) -> Option<u64>
+    requires before { Intact bytes.now 11 }
+    requires laid { Laid bytes.now }
+    ensures { LeastOf (HasZeroText bytes.now) result }
+{
+    zero_text_with(bytes, &mut [0; BLOCKS_OF_ZEROS])
+}
+
+/// V12: a string has a zero byte.
+fn zero_text(bytes: &[u8]) -> Option<u64>
+    requires before { Intact bytes.now 11 }
+    requires laid { Laid bytes.now }
+    ensures { LeastOf (HasZeroText bytes.now) result }
+{
+    if bytes.len() <= SMALL {
+        zero_text_of_small(bytes)
+    } else {
+        zero_text_of_large(bytes)
+    }
+}
+
 /// The outcome of the rules on the strings and the references of records.
 pub(crate) fn check_fields(bytes: &[u8]) -> Result<(), ObjBad>
     requires before { Intact bytes.now 10 }
@@ -248,7 +301,7 @@ pub(crate) fn check_fields(bytes: &[u8]) -> Result<(), ObjBad>
     ensures refused { OnErr result (¬ IsObject bytes.now) }
 {
     settle(bytes, 11, first_failing(bytes, Field::Text, &LongText))?;
-    settle(bytes, 12, first_failing(bytes, Field::Text, &ZeroText))?;
+    settle(bytes, 12, zero_text(bytes))?;
     settle(
         bytes,
         13,

@@ -2,7 +2,7 @@
 ghost use Rattle.std.specs.Prelude.{◌≡◌, ◌+◌, ◌*◌, ◌<◌, ◌≤◌, ◌^◌, ◌↔◌, ℕ, length, IsTrue};
 ghost use Rattle.glk_obj.specs.Blocks.{offset_of, count as count_of, entry_width};
 ghost use Rattle.glk_obj.specs.Laid.{Laid};
-ghost use Rattle.glk_obj.specs.Least.{LeastOf};
+ghost use Rattle.glk_base.specs.Least.{LeastOf};
 ghost use Rattle.glk_obj.specs.Records.{entry_at};
 ghost use Rattle.glk_obj.specs.Rules.{IsTable, pointed as pointed_of, IsBadEntry, TableFault, HasBadEntry};
 

@@ -5,6 +5,10 @@ use super::{
 };
 use std::test::Fail;
 
+mod functions;
+mod kinds;
+mod shared;
+
 /// The object of a program's entry that only exits: one definition with nine bytes of code.
 const LEAST: [u8; 174] = [
     // the magic, no fingerprint, no flags
@@ -346,7 +350,14 @@ fn names_the_rule_and_the_place(rt: HostRuntime) {
         // Hash begins four bytes before RelocIdx, which then has one entry
         (64, 145, 8, 60),
         (68, 145, 9, 64),
+        // and AuxIdx
+        (72, 153, 9, 68),
+        // an entry above the next one, in RelocIdx and AuxIdx
         (141, 1, 10, 145),
+        (149, 1, 10, 153),
+        // the last entry past the records, in each table
+        (145, 1, 10, 145),
+        (153, 1, 10, 153),
         (161, 10, 10, 161),
         (120, 79, 11, 120),
         // an empty string past the end
@@ -387,6 +398,30 @@ fn names_the_rule_and_the_place(rt: HostRuntime) {
             Some((rule, offset)),
             "{value} at {at}"
         );
+    }
+}
+
+#[test]
+fn looks_at_every_string(rt: HostRuntime) {
+    // where a string is named in the second object: in Autolib, PkgIdx, File, the five blocks of
+    // symbols and RefName; and a place from which a string of its length has a zero byte
+    let rows = [
+        (121u32, 120),
+        (145, 122),
+        (153, 120),
+        (161, 122),
+        (182, 122),
+        (203, 122),
+        (224, 122),
+        (245, 122),
+        (444, 118),
+        (460, 118),
+    ];
+    for (at, zero) in rows {
+        // the length's highest byte
+        let place = at as usize;
+        assert_eq!(rt; full_with(place + 3, 1), Some((11, at as u64)), "{at}");
+        assert_eq!(rt; full_with(place + 4, zero), Some((12, at as u64)), "{at}");
     }
 }
 

@@ -1,10 +1,10 @@
 // Objects that break no rule, read in place.
-ghost use Rattle.std.specs.Prelude.{◌≡◌, ◌<◌, ◌≤◌, length, IfOk, OnOk, IfErr, OnErr};
+ghost use Rattle.std.specs.Prelude.{◌≡◌, ◌+◌, ◌<◌, ◌≤◌, length, IfOk, OnOk, IfErr, OnErr};
 ghost use Rattle.std.specs.Option.{option_copied};
-ghost use Rattle.glk_obj.specs.Blocks.{count as count_of, autolib, pkg_idx, file, ref_flags, hash64, hasheddef};
+ghost use Rattle.glk_obj.specs.Blocks.{count as count_of, autolib, pkg_idx, file, ref_flags, hash64, hasheddef, ref_name as ref_name_block};
 ghost use Rattle.glk_obj.specs.Object.{IsObject};
 ghost use Rattle.glk_obj.specs.Positive.{IsTarget, StandsIn};
-ghost use Rattle.glk_obj.specs.Records.{fingerprint, flags, symbols, definitions, symbol_at, data_at, data_length, reloc_count, reloc_at, aux_count, aux_at, autolib_at, pkg_at, file_at, hash64_at, hash_at, ref_flags_at, ref_name};
+ghost use Rattle.glk_obj.specs.Records.{fingerprint, flags, symbols, definitions, symbol_at, data_at, data_length, reloc_count, reloc_at, aux_count, aux_at, autolib_at, pkg_at, file_at, hash64_at, hash_at, ref_flags_at, ref_name, ref_at, text_at, ref_name_place};
 ghost use Rattle.glk_obj.specs.Rules.{IsFirst, IsContentKind, IsAlign};
 ghost use Rattle.glk_obj.specs.Views.{IsShapeOf, number_of, ref_view, symbol_view, reloc_view, aux_view, ref_flags_view};
 
@@ -12,10 +12,11 @@ use crate::blocks::{Block, FINGERPRINT, FLAGS, Offsets, count};
 use crate::definitions::check;
 use crate::places::{
     aux_place, data_part, eight_bytes, entries, find_name, hash_part, named_place, record_place,
-    ref_flags_place, reloc_place, symbol_of,
+    ref_flags_place, ref_name_place, reloc_place, symbol_of,
 };
 use crate::records::{
-    AuxRec, RefFlagsRec, RelocRec, SymRec, SymRef, auxiliary, reference_flags, relocation,
+    AuxRec, RefFlagsRec, RelocRec, SymRec, SymRef, auxiliary, reference, reference_flags,
+    relocation,
 };
 use crate::references::text;
 use crate::rules::{ObjBad, definitions as definition_count, symbols as symbol_count};
@@ -31,8 +32,9 @@ pub struct ObjShape {
 
 impl ObjShape {
     /// The shape of an object, or the first rule that the bytes break and the least place at which
-    /// they break it. The time is linear in the bytes and in the total length of the strings that
-    /// the records name.
+    /// they break it. The time is linear in the bytes, but for the strings: of each that is named at
+    /// most one block is read, 64 bytes or a 16,384th part of the object, and of a small object a
+    /// 256th, however long the string is and however many records share it.
     pub fn check(bytes: &[u8]) -> Result<ObjShape, ObjBad>
         ensures ok { IfOk result (IsShapeOf bytes.now) }
         ensures object { OnOk result (IsObject bytes.now) }
@@ -147,7 +149,7 @@ impl<'a> ObjView<'a> {
         (text(self.bytes, at), eight_bytes(self.bytes, at + 8))
     }
 
-    /// The path of package `k` of PkgIdx, in its escaped spelling; entry 0 is a dummy.
+    /// The path of package `k` of PkgIdx as it is stored, plain or escaped; entry 0 is a dummy.
     #[tactic(auto, unfolding(crate::specs::Blocks::width_of))]
     pub fn pkg(&self, k: u32) -> &'a [u8]
         requires { k < count_of self.now pkg_idx }
@@ -292,5 +294,16 @@ impl<'a> ObjView<'a> {
             count(self.bytes, Block::RefName),
             r,
         )
+    }
+
+    /// Record `k` of RefName: a symbol of another package, and its name.
+    #[tactic(auto, unfolding(crate::specs::Blocks::width_of))]
+    pub fn ref_name_record(&self, k: u32) -> (SymRef, &'a [u8])
+        requires { k < count_of self.now ref_name_block }
+        ensures target { ref_view result.0 ≡ ref_at self.now (ref_name_place self.now k) }
+        ensures name { result.1.now ≡ text_at self.now (ref_name_place self.now k + 8) }
+    {
+        let at = ref_name_place(self.bytes, self.offsets.of(Block::RefName), k);
+        (reference(self.bytes, at), text(self.bytes, at + 8))
     }
 }

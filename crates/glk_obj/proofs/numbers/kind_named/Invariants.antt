@@ -1,0 +1,8 @@
+use Rattle.std.proofs.Common.{◌≡◌, ◌<◌, ℕ, Some}
+use Rattle.std.specs.List.{slice_get}
+use Rattle.glk_obj.specs.declared.kinds.RelocKind.{RelocKind}
+use Rattle.glk_obj.specs.Numbers.{kinds, name_of}
+use Rattle.glk_obj.proofs.numbers.kind_named.Given as goal
+
+abbrev pub invariant-loop-place : goal.invariant-loop-place
+invariant-loop-place l = (j : ℕ) → j < l.place → (kind : RelocKind) → slice_get kinds j ≡ Some kind → l.name ≡ name_of kind → ⊥
