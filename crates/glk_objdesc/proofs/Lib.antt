@@ -1,0 +1,11 @@
+pub mod Told
+pub mod Lists
+pub mod PoolLemmas
+pub mod WriteLemmas
+pub mod Describing
+pub mod SizeLemmas
+pub mod Standing
+pub mod Placed
+pub mod ReadBack
+pub mod DefsBack
+pub mod RoundTrip

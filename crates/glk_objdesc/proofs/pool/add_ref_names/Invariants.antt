@@ -1,0 +1,10 @@
+use Rattle.std.proofs.Common.{◌≡◌, map, length}
+use Rattle.glk_objdesc.specs.FirstUse.{with_each}
+use Rattle.glk_objdesc.specs.Canonical.{ref_name}
+use Rattle.glk_objdesc.proofs.pool.add_ref_names.Given as goal
+
+abbrev pub invariant-loop-rest : goal.invariant-loop-rest
+invariant-loop-rest l = with_each l.pool (map ref_name l.rest) ≡ with_each l.fn.pool (map ref_name l.names)
+
+abbrev pub decreases-loop-rest : goal.decreases-loop-rest
+decreases-loop-rest l = length l.rest

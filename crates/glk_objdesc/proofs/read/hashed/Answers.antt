@@ -1,0 +1,9 @@
+use Rattle.std.proofs.Common.{◌∙◌, ap, ℕ, ◌+◌, List}
+use Rattle.glk_objdesc.specs.Described.{def_desc}
+use Rattle.glk_objdesc.proofs.Lists.{each_more}
+use Rattle.glk_objdesc.proofs.read.hashed.Goals as goal
+
+pub loop-k-preserved : goal.loop-k-preserved
+loop-k-preserved c =
+    each_more _ c.loop-k.k c.loop-k.items.items c.push.new.self.items _ c.loop-k.invariant c.in_ok-push.ensures.items
+    (c.in_ok-definition.ensures ∙ ap (λ (h : List ℕ). def_desc c.args.view.now (c.args.first + c.loop-k.k) h) c.hash.ensures)

@@ -1,0 +1,9 @@
+pub mod Printable
+pub mod Fields
+pub mod FirstUse
+pub mod Canonical
+pub mod Views
+pub mod Sizes
+pub mod Described
+pub mod Written
+pub mod Typed

@@ -1,0 +1,195 @@
+// The strings of an object, each once.
+ghost use Rattle.std.specs.Prelude.{◌≡◌, ◌+◌, ◌<◌, ◌≤◌, ◌^◌, ◌++◌, [], IfOk, OnOk, OnErr, length, map, unwrap_or};
+ghost use Rattle.std.specs.HashMap.{get_by};
+ghost use Rattle.std.specs.Str.{bytes_eq};
+ghost use Rattle.glk_obj.specs.Blocks.{header_length};
+ghost use Rattle.glk_objdesc.specs.FirstUse.{with_first, with_each, joined, place_of};
+ghost use Rattle.glk_objdesc.specs.Canonical.{text_place, told, autolib_path, def_name, sym_name, ref_name, pool_of, object_limit};
+ghost use Rattle.glk_objdesc.specs.Views.{seen};
+
+use crate::desc::{AutolibDesc, DefDesc, ObjDesc, RefNameDesc, SymDesc};
+use glk_base::{OutOfMemory, Text};
+use std::alloc::Global;
+use std::collections::HashMap;
+use std::marker::Model;
+
+/// The length of the header, behind which the strings stand.
+pub(crate) const HEADER_LENGTH: u32 = 96;
+
+/// Strings of first use, each with its place in their join. Contracts see it as the list of the
+/// strings. Places and the size stop at the greatest number.
+#[derive(Drop)]
+pub(crate) struct Pool<'a> {
+    strings: Vec<&'a [u8]>,
+    places: HashMap<&'a [u8], u64>,
+    size: u64,
+}
+
+impl<'a> Model for Pool<'a> {
+    ghost use Rattle.std.specs.Prelude.{List, ℕ};
+    ghost use Rattle.glk_objdesc.specs.Views.{seen, Fits};
+
+    ghost Value = { List (List ℕ) };
+
+    ghost view = { λ p. seen p.strings.items };
+
+    ghost invariant = { λ p. Fits (seen p.strings.items) p.places p.size };
+}
+
+impl<'a> Pool<'a> {
+    fn new(alloc: Global) -> Pool<'a>
+        ensures { result ≡ [] }
+    {
+        Pool {
+            strings: Vec::new(alloc),
+            places: HashMap::new(alloc),
+            size: 0,
+        }
+    }
+
+    // Adds a string where it is new and not empty.
+    fn add(&mut self, string: &'a [u8]) -> Result<(), OutOfMemory>
+        ensures { OnOk result (self.new ≡ with_first self.old string.now) }
+    {
+        if string.is_empty() {
+            return Ok(());
+        }
+        match found(&self.places, string) {
+            Some(_) => return Ok(()),
+            None => {}
+        }
+        self.strings.reserve(1)?;
+        self.places.insert(string, self.size)?;
+        self.strings.push(string)?;
+        self.size = self.size.saturating_add(string.len() as u64);
+        Ok(())
+    }
+
+    /// Where a string stands in the object; an empty one has the place 0.
+    pub(crate) fn place(&self, string: &[u8]) -> u32
+        requires { length (joined self.now) ≤ object_limit }
+        ensures { result ≡ text_place self.now string.now }
+    {
+        if string.is_empty() {
+            return 0;
+        }
+        HEADER_LENGTH + found(&self.places, string).unwrap_or(self.size) as u32
+    }
+
+    /// How long the join is.
+    pub(crate) fn size(&self) -> u64
+        ensures { result ≡ told (length (joined self.now)) }
+    {
+        self.size
+    }
+
+    /// Adds the join at the end.
+    pub(crate) fn write(&self, out: &mut Vec<u8>) -> Result<(), OutOfMemory>
+        ensures { OnOk result (out.new.items ≡ out.old.items ++ joined self.now) }
+    {
+        push_strings(out, &self.strings)
+    }
+}
+
+// The place that is noted for a string.
+fn found(places: &HashMap<&[u8], u64>, string: &[u8]) -> Option<u64>
+    ensures { result ≡ get_by (λ k. bytes_eq string.now k.now) places.now }
+{
+    places.get(string).copied()
+}
+
+// Adds strings at the end.
+#[tactic(auto, unfolding(crate::specs::FirstUse::joined))]
+fn push_strings(out: &mut Vec<u8>, strings: &[&[u8]]) -> Result<(), OutOfMemory>
+    ensures { OnOk result (out.new.items ≡ out.old.items ++ joined (seen strings.now)) }
+{
+    let mut rest = strings;
+    while let [first, after @ ..] = rest {
+        out.extend_from_slice(first)?;
+        rest = after;
+    }
+    Ok(())
+}
+
+// Adds the paths of packages.
+#[tactic(auto, unfolding(crate::specs::FirstUse::with_each))]
+fn add_paths<'a>(pool: &mut Pool<'a>, autolib: &'a [AutolibDesc]) -> Result<(), OutOfMemory>
+    ensures { OnOk result (pool.new ≡ with_each pool.old (map autolib_path autolib.now)) }
+{
+    let mut rest = autolib;
+    while let [first, after @ ..] = rest {
+        pool.add(first.path.as_bytes())?;
+        rest = after;
+    }
+    Ok(())
+}
+
+// Adds the names of packages or files.
+#[tactic(auto, unfolding(crate::specs::FirstUse::with_each))]
+fn add_texts<'a>(pool: &mut Pool<'a>, texts: &'a [Text]) -> Result<(), OutOfMemory>
+    ensures { OnOk result (pool.new ≡ with_each pool.old texts.now) }
+{
+    let mut rest = texts;
+    while let [first, after @ ..] = rest {
+        pool.add(first.as_bytes())?;
+        rest = after;
+    }
+    Ok(())
+}
+
+// Adds the names of definitions.
+#[tactic(auto, unfolding(crate::specs::FirstUse::with_each))]
+fn add_definitions<'a>(pool: &mut Pool<'a>, defs: &'a [DefDesc]) -> Result<(), OutOfMemory>
+    ensures { OnOk result (pool.new ≡ with_each pool.old (map def_name defs.now)) }
+{
+    let mut rest = defs;
+    while let [first, after @ ..] = rest {
+        pool.add(first.sym.name.as_bytes())?;
+        rest = after;
+    }
+    Ok(())
+}
+
+// Adds the names of references.
+#[tactic(auto, unfolding(crate::specs::FirstUse::with_each))]
+fn add_references<'a>(pool: &mut Pool<'a>, refs: &'a [SymDesc]) -> Result<(), OutOfMemory>
+    ensures { OnOk result (pool.new ≡ with_each pool.old (map sym_name refs.now)) }
+{
+    let mut rest = refs;
+    while let [first, after @ ..] = rest {
+        pool.add(first.name.as_bytes())?;
+        rest = after;
+    }
+    Ok(())
+}
+
+// Adds the names of symbols of other packages.
+#[tactic(auto, unfolding(crate::specs::FirstUse::with_each))]
+fn add_ref_names<'a>(pool: &mut Pool<'a>, names: &'a [RefNameDesc]) -> Result<(), OutOfMemory>
+    ensures { OnOk result (pool.new ≡ with_each pool.old (map ref_name names.now)) }
+{
+    let mut rest = names;
+    while let [first, after @ ..] = rest {
+        pool.add(first.name.as_bytes())?;
+        rest = after;
+    }
+    Ok(())
+}
+
+/// The strings of an object, in the order of the blocks that name them.
+#[tactic(auto, unfolding(crate::specs::Canonical::pool_of))]
+pub(crate) fn pool_of<'a>(alloc: Global, d: &'a ObjDesc) -> Result<Pool<'a>, OutOfMemory>
+    ensures { IfOk result (λ pool. pool ≡ pool_of d.now) }
+{
+    let mut pool = Pool::new(alloc);
+    add_paths(&mut pool, d.autolib.as_slice())?;
+    add_texts(&mut pool, d.pkgs.as_slice())?;
+    add_texts(&mut pool, d.files.as_slice())?;
+    add_definitions(&mut pool, d.defs.as_slice())?;
+    add_definitions(&mut pool, d.hash64.as_slice())?;
+    add_definitions(&mut pool, d.hashed.as_slice())?;
+    add_definitions(&mut pool, d.ndefs.as_slice())?;
+    add_references(&mut pool, d.refs.as_slice())?;
+    add_ref_names(&mut pool, d.ref_names.as_slice())?;
+    Ok(pool)
+}

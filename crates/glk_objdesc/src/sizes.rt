@@ -1,0 +1,184 @@
+// How long the blocks of an object are. Sums and products stop at the greatest number.
+ghost use Rattle.std.specs.Prelude.{◌≡◌, ◌+◌, ◌*◌, ◌≤◌, length};
+ghost use Rattle.glk_obj.specs.Blocks.{name_width, symbol_width, ref_flags_width, entry_width, reloc_width, aux_width, ref_name_width};
+ghost use Rattle.glk_objdesc.specs.Canonical.{told, definitions_of};
+ghost use Rattle.glk_objdesc.specs.Sizes.{total_of, packages_length, told_lengths, sum_of};
+
+use crate::desc::{AutolibDesc, DefDesc, ObjDesc};
+use crate::parts::Part;
+
+/// How many blocks there are.
+pub(crate) const BLOCKS: usize = 18;
+
+// The widths of records, in bytes.
+const NAME_WIDTH: u64 = 8;
+
+const SYMBOL_WIDTH: u64 = 21;
+
+const REF_FLAGS_WIDTH: u64 = 10;
+
+const ENTRY_WIDTH: u64 = 4;
+
+const RELOC_WIDTH: u64 = 23;
+
+const AUX_WIDTH: u64 = 9;
+
+const REF_NAME_WIDTH: u64 = 16;
+
+// The length of a package's record.
+fn package_length(entry: &AutolibDesc) -> u64
+    ensures value { result ≡ name_width + length entry.now.fingerprint }
+    ensures small { result ≤ 16 }
+{
+    NAME_WIDTH + entry.fingerprint.len() as u64
+}
+
+// The length of the records of packages.
+#[tactic(auto, unfolding(crate::specs::Canonical::told, crate::specs::Sizes::packages_length))]
+fn packages_length(packages: &[AutolibDesc]) -> u64
+    ensures { result ≡ told (packages_length packages.now) }
+{
+    let mut total: u64 = 0;
+    let mut rest = packages;
+    while let [first, after @ ..] = rest {
+        total = total.saturating_add(package_length(first));
+        rest = after;
+    }
+    total
+}
+
+// How much definitions have of a part.
+#[tactic(auto, unfolding(crate::specs::Canonical::told, crate::specs::Sizes::total_of))]
+fn total(part: Part, defs: &[DefDesc]) -> u64
+    ensures { result ≡ told (total_of part defs.now) }
+{
+    let mut total: u64 = 0;
+    let mut rest = defs;
+    while let [first, after @ ..] = rest {
+        total = total.saturating_add(part.amount(first) as u64);
+        rest = after;
+    }
+    total
+}
+
+// How much all definitions have of a part.
+fn whole(part: Part, d: &ObjDesc) -> u64
+    ensures { result ≡ told (total_of part (definitions_of d.now)) }
+{
+    total(part, d.defs.as_slice())
+        .saturating_add(total(part, d.hash64.as_slice()))
+        .saturating_add(total(part, d.hashed.as_slice()))
+        .saturating_add(total(part, d.ndefs.as_slice()))
+}
+
+// How many definitions there are.
+fn definitions(d: &ObjDesc) -> u64
+    ensures { result ≡ told (length (definitions_of d.now)) }
+{
+    (d.defs.as_slice().len() as u64)
+        .saturating_add(d.hash64.as_slice().len() as u64)
+        .saturating_add(d.hashed.as_slice().len() as u64)
+        .saturating_add(d.ndefs.as_slice().len() as u64)
+}
+
+// The length of a table with an entry for each definition, and one more.
+fn table_length(d: &ObjDesc) -> u64
+    ensures { result ≡ told (entry_width * (length (definitions_of d.now) + 1)) }
+{
+    ENTRY_WIDTH.saturating_mul(definitions(d).saturating_add(1))
+}
+
+// The length of so many symbols.
+#[tactic(auto, unfolding(crate::specs::Canonical::told))]
+fn symbols_length(count: usize) -> u64
+    ensures { result ≡ told (symbol_width * count) }
+{
+    SYMBOL_WIDTH.saturating_mul(count as u64)
+}
+
+// The length of PkgIdx, which has one entry more than there are packages.
+#[tactic(auto, unfolding(crate::specs::Canonical::told))]
+fn pkgs_length(count: usize) -> u64
+    ensures { result ≡ told (name_width * (count + 1)) }
+{
+    NAME_WIDTH.saturating_mul((count as u64).saturating_add(1))
+}
+
+// The length of so many names of files.
+#[tactic(auto, unfolding(crate::specs::Canonical::told))]
+fn files_length(count: usize) -> u64
+    ensures { result ≡ told (name_width * count) }
+{
+    NAME_WIDTH.saturating_mul(count as u64)
+}
+
+// The length of so many records of RefFlags.
+#[tactic(auto, unfolding(crate::specs::Canonical::told))]
+fn ref_flags_length(count: usize) -> u64
+    ensures { result ≡ told (ref_flags_width * count) }
+{
+    REF_FLAGS_WIDTH.saturating_mul(count as u64)
+}
+
+// The length of so many records of RefName.
+#[tactic(auto, unfolding(crate::specs::Canonical::told))]
+fn ref_names_length(count: usize) -> u64
+    ensures { result ≡ told (ref_name_width * count) }
+{
+    REF_NAME_WIDTH.saturating_mul(count as u64)
+}
+
+// The length of all relocations.
+fn relocs_length(d: &ObjDesc) -> u64
+    ensures { result ≡ told (reloc_width * total_of Part.Relocs (definitions_of d.now)) }
+{
+    RELOC_WIDTH.saturating_mul(whole(Part::Relocs, d))
+}
+
+// The length of all auxes.
+fn auxes_length(d: &ObjDesc) -> u64
+    ensures { result ≡ told (aux_width * total_of Part.Auxes (definitions_of d.now)) }
+{
+    AUX_WIDTH.saturating_mul(whole(Part::Auxes, d))
+}
+
+/// The lengths of the blocks in order.
+pub(crate) fn block_lengths(d: &ObjDesc) -> [u64; BLOCKS]
+    ensures { result ≡ told_lengths d.now }
+{
+    let table = table_length(d);
+    [
+        packages_length(d.autolib.as_slice()),
+        pkgs_length(d.pkgs.as_slice().len()),
+        files_length(d.files.as_slice().len()),
+        symbols_length(d.defs.as_slice().len()),
+        symbols_length(d.hash64.as_slice().len()),
+        symbols_length(d.hashed.as_slice().len()),
+        symbols_length(d.ndefs.as_slice().len()),
+        symbols_length(d.refs.as_slice().len()),
+        ref_flags_length(d.ref_flags.as_slice().len()),
+        total(Part::Hash, d.hash64.as_slice()),
+        total(Part::Hash, d.hashed.as_slice()),
+        table,
+        table,
+        table,
+        relocs_length(d),
+        auxes_length(d),
+        whole(Part::Content, d),
+        ref_names_length(d.ref_names.as_slice().len()),
+    ]
+}
+
+/// The sum of lengths and what stands before.
+#[tactic(auto, unfolding(crate::specs::Canonical::told, crate::specs::Sizes::sum_of))]
+pub(crate) fn sum_from(before: u64, lengths: &[u64]) -> u64
+    ensures { result ≡ told (before + sum_of lengths.now) }
+{
+    let mut total = before;
+    let mut rest = lengths;
+    while let [first, after @ ..] = rest {
+        total = total.saturating_add(*first);
+        rest = after;
+    }
+    total
+}
