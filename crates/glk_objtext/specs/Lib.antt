@@ -1,0 +1,15 @@
+pub mod Answers
+pub mod Lines
+pub mod Fields
+pub mod Numbers
+pub mod Strings
+pub mod Octets
+pub mod Targets
+pub mod Words
+pub mod Values
+pub mod Grammar
+pub mod Description
+pub mod Reading
+pub mod Building
+pub mod Text
+pub mod Bytes
