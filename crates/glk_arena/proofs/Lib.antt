@@ -1,0 +1,14 @@
+pub mod Tables
+pub mod ConfigLemmas
+pub mod PackageLemmas
+pub mod Groups
+pub mod HeldLemmas
+pub mod WorldLemmas
+pub mod TableLemmas
+pub mod OneLoad
+pub mod ReadLemmas
+pub mod PathLemmas
+pub mod FormatLemmas
+pub mod PlaceLemmas
+pub mod ImportLemmas
+pub mod WaveSteps

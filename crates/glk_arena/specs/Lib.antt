@@ -1,0 +1,14 @@
+pub mod Config
+pub mod ConfigViews
+pub mod Packages
+pub mod PackageViews
+pub mod Groups
+pub mod World
+pub mod Imports
+pub mod Held
+pub mod ImportPlaces
+pub mod Tables
+pub mod Waves
+pub mod LoadParts
+pub mod WaveLoop
+pub mod LoadAnswers

@@ -1,0 +1,57 @@
+-- The world of a link: its packages in load order, with their objects.
+use Rattle.std.specs.Prelude.{ℕ, List, [], ◌∷◌, ◌-◌, suc, map, take, drop, length, nat_lt, if◌then◌else◌}
+use Rattle.std.specs.List.{flat_map, sum_by}
+use Rattle.glk_obj.specs.Records.{symbols}
+use Rattle.glk_package.specs.Packed.{Packed}
+use Rattle.glk_arena.specs.Groups.{group_of}
+
+-- a package: its path, the bytes of its file, and the objects in it
+pub record Package : Type 0 where
+  pub path : List ℕ
+  pub file : List ℕ
+  pub objects : List Packed
+
+-- the paths of packages
+abbrev pub paths_of : List Package → List (List ℕ)
+paths_of world = map (λ p. p.path) world
+
+-- the objects of all packages, in load order
+abbrev pub packed_in : List Package → List Packed
+packed_in world = flat_map (λ p. p.objects) world
+
+-- the data of these objects
+unfoldable pub objects_of : List Package → List (List ℕ)
+objects_of world = map (λ o. o.goobj) (packed_in world)
+
+-- the number of the package that holds object n
+unfoldable pub package_of_object : List Package → ℕ → ℕ
+package_of_object [] n = 0
+package_of_object (p ∷ later) n = if nat_lt n (length p.objects) then 0 else suc (package_of_object later (n - length p.objects))
+
+-- the number of the first object of package p: behind the objects of the packages before
+unfoldable pub first_object : List Package → ℕ → ℕ
+first_object world p = length (objects_of (take p world))
+
+-- how many objects package p has
+unfoldable pub object_count : List Package → ℕ → ℕ
+object_count world p = length (objects_of (take 1 (drop p world)))
+
+-- how many bytes the files have together
+abbrev pub file_bytes : List Package → ℕ
+file_bytes world = sum_by (λ p. length p.file) world
+
+-- how many symbols the objects have together
+abbrev pub symbol_count : List Package → ℕ
+symbol_count world = sum_by symbols (objects_of world)
+
+-- how many symbols the objects of a package have
+unfoldable pub package_symbols : Package → ℕ
+package_symbols p = sum_by (λ o. symbols o.goobj) p.objects
+
+-- the number of the package that holds row r: one row for each symbol, objects in load order, and in each its local indices
+unfoldable pub package_of_row : List Package → ℕ → ℕ
+package_of_row world r = group_of package_symbols world r
+
+-- a link has at most so many packages
+abbrev pub most_packages : ℕ
+most_packages = 65536

@@ -1,0 +1,205 @@
+// The loaded packages in load order, with tables over them.
+ghost use Rattle.std.specs.Prelude.{◌≡◌, ◌+◌, ◌<◌, ◌≤◌, ◌++◌, ◌∷◌, ℕ, List, [], length, get_or, All, IfOk};
+ghost use Rattle.glk_obj.specs.Object.{IsObject};
+ghost use Rattle.glk_package.specs.Lines.{alike, wanted_after, wanted_view};
+ghost use Rattle.glk_arena.specs.World.{Package, packed_in, objects_of, package_of_object, first_object, object_count, file_bytes, symbol_count, most_packages, package_of_row};
+ghost use Rattle.glk_base.specs.Limits.{most_bytes};
+ghost use Rattle.glk_arena.specs.Held.{IsWhole};
+
+use crate::held::LoadedPackage;
+use glk_base::OutOfMemory;
+use glk_obj::ObjView;
+use glk_package::LineRule;
+use std::alloc::Global;
+use std::marker::Model;
+
+/// Packages in load order. Contracts see them as a list.
+#[derive(Drop)]
+pub(crate) struct PackageList {
+    packages: Vec<LoadedPackage>,
+    // the number of each object's package
+    owners: Vec<u32>,
+    // the first object of each package
+    firsts: Vec<u32>,
+    // the first row of each package
+    rows: Vec<u32>,
+    bytes: u64,
+    symbols: u64,
+}
+
+impl Model for PackageList {
+    ghost use Rattle.std.specs.Prelude.{List};
+    ghost use Rattle.glk_arena.specs.World.{Package};
+    ghost use Rattle.glk_arena.specs.Tables.{AreTables};
+
+    ghost Value = { List Package };
+
+    ghost view = { λ l. l.packages.items };
+
+    ghost invariant = { λ l. AreTables l.packages.items l.owners.items l.firsts.items l.rows.items l.bytes l.symbols };
+}
+
+impl PackageList {
+    pub(crate) fn new(alloc: Global) -> PackageList
+        ensures { result ≡ [] }
+    {
+        PackageList {
+            packages: Vec::new(alloc),
+            owners: Vec::new(alloc),
+            firsts: Vec::new(alloc),
+            rows: Vec::new(alloc),
+            bytes: 0,
+            symbols: 0,
+        }
+    }
+
+    /// How many packages there are.
+    pub(crate) fn packages(&self) -> u32
+        ensures value { result ≡ length self.now }
+        ensures few { length self.now ≤ most_packages }
+        ensures objects { All IsObject (objects_of self.now) }
+    {
+        self.packages.len() as u32
+    }
+
+    /// Package `p`.
+    pub(crate) fn package(&self, p: usize) -> &LoadedPackage
+        requires { p < length self.now }
+        ensures { (d : Package) → result.now ≡ get_or self.now p d }
+    {
+        &self.packages[p]
+    }
+
+    /// The rule for the lines of further objects: that of the first one, where there is one.
+    pub(crate) fn rule(&self) -> LineRule<'_>
+        ensures { wanted_view result ≡ wanted_after alike (packed_in self.now) }
+    {
+        if self.objects() == 0 {
+            return LineRule::Alike;
+        }
+        LineRule::Same(
+            self.package(self.package_of_object(0) as usize)
+                .first_line(),
+        )
+    }
+
+    /// How many objects they have.
+    pub(crate) fn objects(&self) -> u32
+        ensures { result ≡ length (objects_of self.now) }
+    {
+        self.owners.len() as u32
+    }
+
+    /// How many bytes their files have.
+    pub(crate) fn bytes(&self) -> u64
+        ensures value { result ≡ file_bytes self.now }
+        ensures few { file_bytes self.now ≤ most_bytes }
+        ensures whole { All IsWhole self.now }
+    {
+        self.bytes
+    }
+
+    /// How many symbols their objects have.
+    pub(crate) fn symbols(&self) -> u64
+        ensures { result ≡ symbol_count self.now }
+    {
+        self.symbols
+    }
+
+    /// The number of the package that holds object `n`.
+    pub(crate) fn package_of_object(&self, n: u32) -> u32
+        requires { n < length (objects_of self.now) }
+        ensures value { result ≡ package_of_object self.now n }
+        ensures inside { result < length self.now }
+    {
+        self.owners[n as usize]
+    }
+
+    /// The number of the first object of package `p`.
+    pub(crate) fn first_object(&self, p: u32) -> u32
+        requires { p < length self.now }
+        ensures { result ≡ first_object self.now p }
+    {
+        self.firsts[p as usize]
+    }
+
+    /// How many objects package `p` has.
+    pub(crate) fn object_count(&self, p: u32) -> u32
+        requires { p < length self.now }
+        ensures { result ≡ object_count self.now p }
+    {
+        self.packages[p as usize].objects() as u32
+    }
+
+    /// Object `n`, without another check.
+    pub(crate) fn object(&self, n: u32) -> ObjView<'_>
+        requires { n < length (objects_of self.now) }
+        ensures object { IsObject (get_or (objects_of self.now) n []) }
+        ensures value { result ≡ get_or (objects_of self.now) n [] }
+    {
+        let p = self.package_of_object(n);
+        let first = self.first_object(p);
+        self.package(p as usize).object((n - first) as usize)
+    }
+
+    /// The number of the package that holds row `r`: the last whose first row is not behind it.
+    pub(crate) fn package_of_row(&self, r: u32) -> u32
+        requires { r < symbol_count self.now }
+        ensures value { result ≡ package_of_row self.now r }
+        ensures inside { result < length self.now }
+    {
+        last_below(&self.rows, r) as u32
+    }
+
+    /// These packages and one behind them.
+    pub(crate) fn push(self, last: LoadedPackage) -> Result<PackageList, OutOfMemory>
+        requires whole { IsWhole last }
+        requires few { length self < most_packages }
+        requires small { file_bytes self + length last.file ≤ most_bytes }
+        ensures { IfOk result (λ list. list ≡ self ++ last ∷ []) }
+    {
+        let PackageList {
+            mut packages,
+            mut owners,
+            mut firsts,
+            mut rows,
+            bytes,
+            symbols,
+        } = self;
+        let first = owners.len();
+        let more_bytes = last.bytes() as u64;
+        let more_symbols = last.symbols() as u64;
+        owners.resize(first + last.objects(), packages.len() as u32)?;
+        firsts.push(first as u32)?;
+        rows.push(symbols as u32)?;
+        packages.push(last)?;
+        Ok(PackageList {
+            packages,
+            owners,
+            firsts,
+            rows,
+            bytes: bytes + more_bytes,
+            symbols: symbols + more_symbols,
+        })
+    }
+}
+
+/// The last place whose number is not above `r`, in numbers that rise from one that is not above it.
+fn last_below(rows: &[u32], r: u32) -> usize
+    requires { (0 < length rows.now) × (get_or rows.now 0 0 ≤ r) }
+    ensures inside { result < length rows.now }
+    ensures low { get_or rows.now result 0 ≤ r }
+    ensures high { (result + 1 < length rows.now) → r < get_or rows.now (result + 1) 0 }
+{
+    let mut low = 0;
+    let mut high = rows.len();
+    while high - low > 1 {
+        let middle = low + (high - low) / 2;
+        if rows[middle] <= r {
+            low = middle;
+        } else {
+            high = middle;
+        }
+    }
+    low
+}
