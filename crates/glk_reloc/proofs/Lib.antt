@@ -1,0 +1,6 @@
+pub mod Bounds
+pub mod Splices
+pub mod Patching
+pub mod Cuts
+pub mod Unique
+pub mod Laying

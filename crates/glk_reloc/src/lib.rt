@@ -1,0 +1,18 @@
+//! Relocations: the values of fields, and the fields of an image written in place, by threads.
+//!
+//! `value` says which number a relocation writes and `fits` whether its field has room for it.
+//! `patch` writes one field, and `patch_all` those of a whole image, in parts that share no byte.
+//! Nothing here takes memory.
+#![tactic(auto)]
+
+mod fields;
+mod image;
+mod laws;
+#[cfg(test)]
+mod tests;
+mod values;
+
+pub use fields::{Field, Overflow, patch};
+pub use image::patch_all;
+pub use laws::{one_answer, one_patched};
+pub use values::{fits, value};
