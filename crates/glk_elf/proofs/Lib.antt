@@ -3,3 +3,17 @@ pub mod PlacingLemmas
 pub mod PartLemmas
 pub mod FillLemmas
 pub mod LengthLemmas
+pub mod ReaderIntact
+pub mod ReaderFirst
+pub mod ReaderNames
+pub mod ReaderPlaces
+pub mod BytesAt
+pub mod ImageParts
+pub mod ImageAt
+pub mod ImageHeaders
+pub mod ImageNames
+pub mod ImageAccepted
+pub mod ImageSymbols
+pub mod ImageTables
+pub mod ImageMemory
+pub mod ImageReadBack

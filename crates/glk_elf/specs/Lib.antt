@@ -1,6 +1,15 @@
-pub mod Fields
 pub mod Gabi
 pub mod Sections
 pub mod Image
 pub mod Placing
 pub mod Views
+pub mod First
+pub mod ReaderHeaders
+pub mod ReaderStrings
+pub mod ReaderSections
+pub mod ReaderRules
+pub mod ReaderFile
+pub mod ReaderLaid
+pub mod ReaderFit
+pub mod ReaderViews
+pub mod ReaderLaw

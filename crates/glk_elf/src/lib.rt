@@ -1,12 +1,19 @@
-//! Images for linux/amd64: the bytes of an ELF file from its parts.
+//! Images for linux/amd64: the bytes of an ELF file from its parts, and the exact reader of ELF-64
+//! files.
+//!
+//! `ElfView::read` accepts a list of bytes exactly where it breaks none of the rules E1 to E11, and
+//! else names the first broken rule and the least offset at which it is broken. An accepted file is
+//! then read through accessors, which give records of the file and slices of its bytes. The reader
+//! takes no memory.
 #![tactic(auto)]
 
-mod fields;
 mod gabi;
+mod laws;
 mod layout;
 mod parts;
 mod placing;
 mod program_headers;
+mod read;
 mod section_headers;
 mod sections;
 mod strings;
@@ -15,7 +22,9 @@ mod symbols;
 mod tests;
 mod write;
 
+pub use laws::images_read_back;
 pub use parts::{ElfParts, SectionBytes, SectionPart, SymRow};
 pub use placing::place_sections;
+pub use read::{ElfBad, ElfSection, ElfSym, ElfView};
 pub use sections::{PLACED_SECTIONS, Section};
 pub use write::{image_size, write_elf};
