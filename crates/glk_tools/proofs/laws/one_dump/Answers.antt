@@ -1,0 +1,5 @@
+use Rattle.glk_tools.proofs.Dumped.{one_dump}
+use Rattle.glk_tools.proofs.laws.one_dump.Goals as goal
+
+pub returns : goal.returns
+returns c = one_dump
