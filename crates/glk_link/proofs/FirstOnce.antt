@@ -1,98 +1,145 @@
--- There is one first refusal.
-use Rattle.std.proofs.Common.{◌≡◌, ◌<◌, ◌^◌, ℕ, List, length, Option, Some, None, refl, ap, subst, arith}
+-- There is one first refusal, and one image.
+use Rattle.std.proofs.Common.{◌≡◌, ◌<◌, ℕ, List, length, Option, Some, None, Ok, Err, inl, inr, refl, sym, ◌∙◌, ap, subst, arith}
+use Rattle.std.specs.Prelude.{Result}
+use Rattle.std.proofs.Math.Path.{fun_ext}
+use Rattle.std.proofs.lemmas.Bool.{cases_order}
 use Rattle.glk_base.specs.declared.cause.Cause.{Cause}
+use Rattle.glk_base.specs.Lines.{lines, line_number, AllGood, IsFirstBad}
 use Rattle.glk_io.specs.Contents.{Contents, file_in}
-use Rattle.glk_link.specs.Reach.{IsEntry, Step, entry_stays, callee_stays, IsReached}
-use Rattle.glk_link.specs.Built.{IsBuilt}
-use Rattle.glk_link.specs.Image.{IsLinkable}
-use Rattle.glk_link.specs.First.{IsRead, IsLoaded, IsFirst, absent, long, not_linkable, no_entry, not_built, none}
-use Rattle.glk_link.proofs.Derivations.{IsReached-least}
-use Rattle.glk_link.proofs.Once.{bare_once}
+use Rattle.glk_arena.specs.Config.{IsGoodLine, IsLastFile}
+use Rattle.glk_arena.proofs.ConfigLemmas.{one_file}
+use Rattle.glk_arena.specs.World.{Package}
+use Rattle.glk_arena.specs.Waves.{IsLoad, IsOneLoad}
+use Rattle.glk_link.specs.Image.{IsImageOf}
+use Rattle.glk_link.specs.Refusals.{IsRefused}
+use Rattle.glk_link.specs.First.{Listing, config_limit, IsConfigRead, ReadsConfig, absent, long, bad, good, IsConfigured, told_of, IsAccepted, IsLoaded, IsFirst, unbuilt, unconfigured, unloaded, loaded, IsImage}
+use Rattle.glk_link.specs.declared.options.LinkOptions.{LinkOptions}
+use Rattle.glk_link.proofs.ImageOnce.{image_of_once}
+use Rattle.glk_link.proofs.RefusedOnce.{refused_once}
 
--- a file that is there is not absent
-there_or_not : (files : Contents) (main file : List ℕ) → file_in files main ≡ None → file_in files main ≡ Some file → ⊥
-there_or_not files main file misses there = cc
+-- What a configuration says.
 
-same_file : (files : Contents) (main a b : List ℕ) → file_in files main ≡ Some a → file_in files main ≡ Some b → a ≡ b
-same_file files main a b x y = cc
+-- a file that is there is not absent, and has one content
+there_or_not : (files : Contents) (path file : List ℕ) → file_in files path ≡ None → file_in files path ≡ Some file → ⊥
+there_or_not files path file misses there = cc
 
--- a file is too long or not
-long_or_not : (files : Contents) (main a b : List ℕ) → file_in files main ≡ Some a → 2 ^ 20 < length a → IsRead files main b → ⊥
-long_or_not files main a b x l r =
-    let e = same_file files main a b x r.there in
+same_file : (files : Contents) (path a b : List ℕ) → file_in files path ≡ Some a → file_in files path ≡ Some b → a ≡ b
+same_file files path a b x y = cc
+
+long_or_not : (files : Contents) (path a b : List ℕ) → file_in files path ≡ Some a → config_limit < length a → IsConfigRead files path b → ⊥
+long_or_not files path a b x l r =
+    let e = same_file files path a b x r.there in
     omega (arith, l, r.short, ap length e)
 
--- the object of a link is the only one
-pub loaded_once : (files : Contents) (main a b : List ℕ) → IsLoaded files main a → IsLoaded files main b → a ≡ b
-loaded_once files main a b x y =
-    let e : y.file ≡ x.file = same_file files main y.file x.file y.is_read.there x.is_read.there in
-    let P : List ℕ → Type 0 = λ f. IsLinkable f b in
-    bare_once x.file a b x.linkable.bare (subst P e y.linkable).bare
+read_once : (files : Contents) (path a b : List ℕ) → IsConfigRead files path a → IsConfigRead files path b → a ≡ b
+read_once files path a b x y = same_file files path a b x.there y.there
 
-linkable_or_not : (files : Contents) (main file object : List ℕ) → IsRead files main file → ((o : List ℕ) → IsLinkable file o → ⊥) → IsLoaded files main object → ⊥
-linkable_or_not files main file object r never l =
-    let e : l.file ≡ file = same_file files main l.file file l.is_read.there r.there in
-    let P : List ℕ → Type 0 = λ f. IsLinkable f object in
-    never object (subst P e l.linkable)
+-- the first bad line
+bad_once : (ls : List (List ℕ)) (Good : ℕ → Type 0) (m n : ℕ) → IsFirstBad ls Good m → IsFirstBad ls Good n → m ≡ n
+bad_once ls Good m n x y =
+    elim (cases_order x.line y.line) [
+      | inl same ↦ x.number_is ∙ ap line_number same ∙ sym y.number_is
+      | inr (inl less) ↦ absurd (x.bad (y.before x.line less))
+      | inr (inr more) ↦ absurd (y.bad (x.before y.line more))
+    ]
 
-entry_or_not : (files : Contents) (main entry a b : List ℕ) (i : ℕ) → IsLoaded files main a → IsLoaded files main b → ((j : ℕ) → IsEntry a entry j → ⊥) → IsEntry b entry i → ⊥
-entry_or_not files main entry a b i x y never is =
-    let P : List ℕ → Type 0 = λ o. IsEntry o entry i in
-    never i (subst P (loaded_once files main b a y x) is)
+bad_or_good : (files : Contents) (path a b : List ℕ) (n : ℕ) → IsConfigRead files path a → IsFirstBad (lines a) (IsGoodLine (lines a)) n
+    → IsConfigRead files path b → AllGood (lines b) (IsGoodLine (lines b)) → ⊥
+bad_or_good files path a b n x f y all =
+    let P : List ℕ → Type 0 = λ t. AllGood (lines t) (IsGoodLine (lines t)) in
+    f.bad (subst P (read_once files path b a y x) all f.line f.inside)
 
--- a symbol that is reached and not placed has a derivation, which begins with the entry
-entry_reached : (object entry : List ℕ) (i : ℕ) → IsReached object entry i → ((j : ℕ) → IsEntry object entry j → ⊥) → ⊥
-entry_reached object entry i r never = IsReached-least object entry (λ _. ⊥) (λ j s. root s) i r
-  where
-    root : {j : ℕ} → Step object entry (λ _. ⊥) j → ⊥
-    root (entry_stays k is) = never k is
-    root (callee_stays k m t kept calls) = kept
+same_bad : (files : Contents) (path a b : List ℕ) (m n : ℕ) → IsConfigRead files path a → IsFirstBad (lines a) (IsGoodLine (lines a)) m
+    → IsConfigRead files path b → IsFirstBad (lines b) (IsGoodLine (lines b)) n → m ≡ n
+same_bad files path a b m n x f y g =
+    let P : List ℕ → Type 0 = λ t. IsFirstBad (lines t) (IsGoodLine (lines t)) n in
+    bad_once (lines a) (IsGoodLine (lines a)) m n f (subst P (read_once files path b a y x) g)
 
-built_or_not : (files : Contents) (main entry a b : List ℕ) (i : ℕ) → IsLoaded files main a → IsLoaded files main b → IsReached a entry i → (IsBuilt a i → ⊥)
-    → ((j : ℕ) → IsReached b entry j → IsBuilt b j) → ⊥
-built_or_not files main entry a b i x y r never built =
-    let P : List ℕ → Type 0 = λ o. ((j : ℕ) → IsReached o entry j → IsBuilt o j) in
-    never (subst P (loaded_once files main b a y x) built i r)
+same_listing : (files : Contents) (path a b : List ℕ) (one other : Listing) → IsConfigRead files path a → ((named : List ℕ) → IsLastFile (lines a) (length (lines a)) named (one named))
+    → IsConfigRead files path b → ((named : List ℕ) → IsLastFile (lines b) (length (lines b)) named (other named)) → one ≡ other
+same_listing files path a b one other x f y g =
+    let P : List ℕ → Type 0 = λ t. (named : List ℕ) → IsLastFile (lines t) (length (lines t)) named (other named) in
+    let h = subst P (read_once files path b a y x) g in
+    fun_ext (λ named. one_file (lines a) (length (lines a)) named (one named) (other named) (f named) (h named))
 
-unreached_or_not : (files : Contents) (main entry a b : List ℕ) (i : ℕ) → IsLoaded files main a → IsLoaded files main b → ((j : ℕ) → IsEntry a entry j → ⊥) → IsReached b entry i → ⊥
-unreached_or_not files main entry a b i x y never r =
-    let P : List ℕ → Type 0 = λ o. IsReached o entry i in
-    entry_reached a entry i (subst P (loaded_once files main b a y x) r) never
+config_once : (files : Contents) (path : List ℕ) (a b : Result Listing Cause) → ReadsConfig files path a → ReadsConfig files path b → a ≡ b
+config_once files path a b (absent n0) (absent n1) = refl
+config_once files path a b (absent n0) (long t1 h1 l1) = absurd (there_or_not files path t1 n0 h1)
+config_once files path a b (absent n0) (bad t1 r1 m1 f1) = absurd (there_or_not files path t1 n0 r1.there)
+config_once files path a b (absent n0) (good t1 r1 g1 l1 f1) = absurd (there_or_not files path t1 n0 r1.there)
+config_once files path a b (long t0 h0 l0) (absent n1) = absurd (there_or_not files path t0 n1 h0)
+config_once files path a b (long t0 h0 l0) (long t1 h1 l1) = refl
+config_once files path a b (long t0 h0 l0) (bad t1 r1 m1 f1) = absurd (long_or_not files path t0 t1 h0 l0 r1)
+config_once files path a b (long t0 h0 l0) (good t1 r1 g1 l1 f1) = absurd (long_or_not files path t0 t1 h0 l0 r1)
+config_once files path a b (bad t0 r0 m0 f0) (absent n1) = absurd (there_or_not files path t0 n1 r0.there)
+config_once files path a b (bad t0 r0 m0 f0) (long t1 h1 l1) = absurd (long_or_not files path t1 t0 h1 l1 r0)
+config_once files path a b (bad t0 r0 m0 f0) (bad t1 r1 m1 f1) = let same = same_bad files path t0 t1 m0 m1 r0 f0 r1 f1 in cc
+config_once files path a b (bad t0 r0 m0 f0) (good t1 r1 g1 l1 f1) = absurd (bad_or_good files path t0 t1 m0 r0 f0 r1 g1)
+config_once files path a b (good t0 r0 g0 l0 f0) (absent n1) = absurd (there_or_not files path t0 n1 r0.there)
+config_once files path a b (good t0 r0 g0 l0 f0) (long t1 h1 l1) = absurd (long_or_not files path t1 t0 h1 l1 r0)
+config_once files path a b (good t0 r0 g0 l0 f0) (bad t1 r1 m1 f1) = absurd (bad_or_good files path t1 t0 m1 r1 f1 r0 g0)
+config_once files path a b (good t0 r0 g0 l0 f0) (good t1 r1 g1 l1 f1) = let same = same_listing files path t0 t1 l0 l1 r0 f0 r1 f1 in ap Ok same
 
-pub one_first : (files : Contents) (main entry : List ℕ) (a b : Option Cause) → IsFirst files main entry a → IsFirst files main entry b → a ≡ b
-one_first files main entry a b (absent n) (absent m) = refl
-one_first files main entry a b (absent n) (long f t l) = absurd (there_or_not files main f n t)
-one_first files main entry a b (absent n) (not_linkable f r v) = absurd (there_or_not files main f n r.there)
-one_first files main entry a b (absent n) (no_entry o l v) = absurd (there_or_not files main l.file n l.is_read.there)
-one_first files main entry a b (absent n) (not_built o l i r v) = absurd (there_or_not files main l.file n l.is_read.there)
-one_first files main entry a b (absent n) (none o l i e v) = absurd (there_or_not files main l.file n l.is_read.there)
-one_first files main entry a b (long f t l) (absent n) = absurd (there_or_not files main f n t)
-one_first files main entry a b (long f t l) (long g u m) = refl
-one_first files main entry a b (long f t l) (not_linkable g r v) = absurd (long_or_not files main f g t l r)
-one_first files main entry a b (long f t l) (no_entry o m v) = absurd (long_or_not files main f m.file t l m.is_read)
-one_first files main entry a b (long f t l) (not_built o m i r v) = absurd (long_or_not files main f m.file t l m.is_read)
-one_first files main entry a b (long f t l) (none o m i e v) = absurd (long_or_not files main f m.file t l m.is_read)
-one_first files main entry a b (not_linkable g r v) (absent n) = absurd (there_or_not files main g n r.there)
-one_first files main entry a b (not_linkable g r v) (long f t l) = absurd (long_or_not files main f g t l r)
-one_first files main entry a b (not_linkable g r v) (not_linkable h s w) = refl
-one_first files main entry a b (not_linkable g r v) (no_entry o m w) = absurd (linkable_or_not files main g o r v m)
-one_first files main entry a b (not_linkable g r v) (not_built o m i s w) = absurd (linkable_or_not files main g o r v m)
-one_first files main entry a b (not_linkable g r v) (none o m i e w) = absurd (linkable_or_not files main g o r v m)
-one_first files main entry a b (no_entry o l v) (absent n) = absurd (there_or_not files main l.file n l.is_read.there)
-one_first files main entry a b (no_entry o m v) (long f t l) = absurd (long_or_not files main f m.file t l m.is_read)
-one_first files main entry a b (no_entry o m v) (not_linkable g r w) = absurd (linkable_or_not files main g o r w m)
-one_first files main entry a b (no_entry o l v) (no_entry p m w) = refl
-one_first files main entry a b (no_entry o l v) (not_built p m i r w) = absurd (unreached_or_not files main entry o p i l m v r)
-one_first files main entry a b (no_entry o l v) (none p m i e w) = absurd (entry_or_not files main entry o p i l m v e)
-one_first files main entry a b (not_built o l i r v) (absent n) = absurd (there_or_not files main l.file n l.is_read.there)
-one_first files main entry a b (not_built o m i r v) (long f t l) = absurd (long_or_not files main f m.file t l m.is_read)
-one_first files main entry a b (not_built o m i s v) (not_linkable g r w) = absurd (linkable_or_not files main g o r w m)
-one_first files main entry a b (not_built p m i r w) (no_entry o l v) = absurd (unreached_or_not files main entry o p i l m v r)
-one_first files main entry a b (not_built o l i r v) (not_built p m j s w) = refl
-one_first files main entry a b (not_built o l i r v) (none p m j e w) = absurd (built_or_not files main entry o p i l m r v w)
-one_first files main entry a b (none o l i e v) (absent n) = absurd (there_or_not files main l.file n l.is_read.there)
-one_first files main entry a b (none o m i e v) (long f t l) = absurd (long_or_not files main f m.file t l m.is_read)
-one_first files main entry a b (none o m i e v) (not_linkable g r w) = absurd (linkable_or_not files main g o r w m)
-one_first files main entry a b (none p m i e w) (no_entry o l v) = absurd (entry_or_not files main entry o p i l m v e)
-one_first files main entry a b (none p m j e w) (not_built o l i r v) = absurd (built_or_not files main entry o p i l m r v w)
-one_first files main entry a b (none o l i e v) (none p m j f w) = refl
+configured_once : (files : Contents) (path : Option (List ℕ)) (a b : Result Listing Cause) → IsConfigured files path a → IsConfigured files path b → a ≡ b
+configured_once files None a b x y = x ∙ sym y
+configured_once files (Some path) a b x y = config_once files path a b x y
+
+-- What is loaded.
+
+listed_once : (files : Contents) (path : Option (List ℕ)) (a b : Listing) → IsConfigured files path (Ok a) → IsConfigured files path (Ok b) → a ≡ b
+listed_once files path a b x y = let same = configured_once files path (Ok a) (Ok b) x y in cc
+
+refused_or_listed : (files : Contents) (path : Option (List ℕ)) (a : Cause) (b : Listing) → IsConfigured files path (Err a) → IsConfigured files path (Ok b) → ⊥
+refused_or_listed files path a b x y = let same = configured_once files path (Err a) (Ok b) x y in cc
+
+config_refusal : (files : Contents) (path : Option (List ℕ)) (a b : Cause) → IsConfigured files path (Err a) → IsConfigured files path (Err b) → Some a ≡ Some b
+config_refusal files path a b x y = let same = configured_once files path (Err a) (Err b) x y in cc
+
+-- loads of one configuration are one
+load_once : IsOneLoad → (files : Contents) (opts : LinkOptions) (l m : Listing) (a b : Result (List Package) Cause) → IsAccepted files opts l → IsAccepted files opts m
+    → IsLoad (told_of files opts l) a → IsLoad (told_of files opts m) b → a ≡ b
+load_once one files opts l m a b x y f g =
+    let P : Listing → Type 0 = λ k. IsLoad (told_of files opts k) b in
+    one (told_of files opts l) a b f (subst P (listed_once files opts.importcfg m l y.configured x.configured) g)
+
+pub loaded_once : IsOneLoad → (files : Contents) (opts : LinkOptions) (a b : List Package) → IsLoaded files opts a → IsLoaded files opts b → a ≡ b
+loaded_once one files opts a b x y = let same = load_once one files opts x.listed y.listed (Ok a) (Ok b) x.accepted y.accepted x.load y.load in cc
+
+load_refusal : IsOneLoad → (files : Contents) (opts : LinkOptions) (l m : Listing) (a b : Cause) → IsAccepted files opts l → IsAccepted files opts m
+    → IsLoad (told_of files opts l) (Err a) → IsLoad (told_of files opts m) (Err b) → Some a ≡ Some b
+load_refusal one files opts l m a b x y f g = let same = load_once one files opts l m (Err a) (Err b) x y f g in cc
+
+refused_or_loaded : IsOneLoad → (files : Contents) (opts : LinkOptions) (l : Listing) (a : Cause) (world : List Package) → IsAccepted files opts l
+    → IsLoad (told_of files opts l) (Err a) → IsLoaded files opts world → ⊥
+refused_or_loaded one files opts l a world x f y = let same = load_once one files opts l y.listed (Err a) (Ok world) x y.accepted f y.load in cc
+
+same_refusal : IsOneLoad → (files : Contents) (opts : LinkOptions) (v w : List Package) (a b : Option Cause) → IsLoaded files opts v → IsRefused v opts.entry a
+    → IsLoaded files opts w → IsRefused w opts.entry b → a ≡ b
+same_refusal one files opts v w a b x f y g =
+    let P : List Package → Type 0 = λ o. IsRefused o opts.entry b in
+    refused_once v opts.entry a b f (subst P (loaded_once one files opts w v y x) g)
+
+-- the first refusal of a link
+pub one_first : IsOneLoad → (files : Contents) (opts : LinkOptions) (a b : Option Cause) → IsFirst files opts a → IsFirst files opts b → a ≡ b
+one_first one files opts a b (unbuilt u0) (unbuilt u1) = refl
+one_first one files opts a b (unbuilt u0) (unconfigured n1 c1 h1) = absurd (n1 u0)
+one_first one files opts a b (unbuilt u0) (unloaded l1 a1 c1 h1) = absurd (a1.built u0)
+one_first one files opts a b (unbuilt u0) (loaded w1 l1 f1 r1) = absurd (l1.accepted.built u0)
+one_first one files opts a b (unconfigured n0 c0 h0) (unbuilt u1) = absurd (n0 u1)
+one_first one files opts a b (unconfigured n0 c0 h0) (unconfigured n1 c1 h1) = config_refusal files opts.importcfg c0 c1 h0 h1
+one_first one files opts a b (unconfigured n0 c0 h0) (unloaded l1 a1 c1 h1) = absurd (refused_or_listed files opts.importcfg c0 l1 h0 a1.configured)
+one_first one files opts a b (unconfigured n0 c0 h0) (loaded w1 l1 f1 r1) = absurd (refused_or_listed files opts.importcfg c0 l1.listed h0 l1.accepted.configured)
+one_first one files opts a b (unloaded l0 a0 c0 h0) (unbuilt u1) = absurd (a0.built u1)
+one_first one files opts a b (unloaded l0 a0 c0 h0) (unconfigured n1 c1 h1) = absurd (refused_or_listed files opts.importcfg c1 l0 h1 a0.configured)
+one_first one files opts a b (unloaded l0 a0 c0 h0) (unloaded l1 a1 c1 h1) = load_refusal one files opts l0 l1 c0 c1 a0 a1 h0 h1
+one_first one files opts a b (unloaded l0 a0 c0 h0) (loaded w1 l1 f1 r1) = absurd (refused_or_loaded one files opts l0 c0 w1 a0 h0 l1)
+one_first one files opts a b (loaded w0 l0 f0 r0) (unbuilt u1) = absurd (l0.accepted.built u1)
+one_first one files opts a b (loaded w0 l0 f0 r0) (unconfigured n1 c1 h1) = absurd (refused_or_listed files opts.importcfg c1 l0.listed h1 l0.accepted.configured)
+one_first one files opts a b (loaded w0 l0 f0 r0) (unloaded l1 a1 c1 h1) = absurd (refused_or_loaded one files opts l1 c1 w0 a1 h1 l0)
+one_first one files opts a b (loaded w0 l0 f0 r0) (loaded w1 l1 f1 r1) = same_refusal one files opts w0 w1 a b l0 r0 l1 r1
+
+-- the image of what the options name
+pub image_once : IsOneLoad → (files : Contents) (opts : LinkOptions) (a b : List ℕ) → IsImage files opts a → IsImage files opts b → a ≡ b
+image_once one files opts a b x y =
+    let Q : List Package → Type 0 = λ w. IsImageOf w opts.entry b in
+    image_of_once x.world opts.entry a b x.linkable.plain x.built x.image_of (subst Q (loaded_once one files opts y.world x.world y.loaded x.loaded) y.image_of)

@@ -2,7 +2,6 @@
 use Rattle.std.proofs.Common.{◌≡◌, ◌<◌, ◌≤◌, ℕ, List, [], length, inl, inr, Some, sym, ap, ◌∙◌, subst, arith}
 use Rattle.std.proofs.lemmas.Bool.{cases_lt, cases_eq}
 use Rattle.std.proofs.lemmas.List.{nil_from_length}
-use Rattle.glk_io.specs.Contents.{Contents, file_in}
 use Rattle.glk_elf.specs.Image.{Parts, section, elf_bytes}
 use Rattle.glk_elf.specs.Placing.{IsPlaced, text_start}
 use Rattle.glk_elf.specs.Sections.{text, written_data, tbss}
@@ -12,44 +11,45 @@ use Rattle.glk_link.specs.Reach.{IsReached, AreKept}
 use Rattle.glk_link.specs.Built.{IsBuilt}
 use Rattle.glk_link.specs.Layout.{AreAt, address_of}
 use Rattle.glk_link.specs.Contents.{IsTextFrom}
-use Rattle.glk_link.specs.Image.{IsStart, HasTextAlone, IsImageOf, IsLinkable, IsImage}
+use Rattle.glk_link.specs.Image.{IsStart, HasTextAlone, IsImageOf}
 use Rattle.glk_link.proofs.Derivations.{IsReached-callee}
 use Rattle.glk_link.proofs.Each.{each}
-use Rattle.glk_link.proofs.Once.{rising_once, bare_once, at_once}
+use Rattle.glk_link.proofs.Once.{rising_once, at_once}
 use Rattle.glk_link.proofs.ContentOnce.{AreWhole, text_once, address_some}
+use Rattle.glk_arena.specs.World.{Package}
 
 -- the kept definitions
-pub kept_once : (object entry xs ys : List ℕ) → AreKept object entry xs → AreKept object entry ys → xs ≡ ys
-kept_once object entry xs ys x y =
+pub kept_once : (world : List Package) (entry xs ys : List ℕ) → AreKept world entry xs → AreKept world entry ys → xs ≡ ys
+kept_once world entry xs ys x y =
     rising_once xs ys x.rising y.rising
-    (λ i c. y.whole i (each (IsReached object entry) xs x.sound i c))
-    (λ i c. x.whole i (each (IsReached object entry) ys y.sound i c))
+    (λ i c. y.whole i (each (IsReached world entry) xs x.sound i c))
+    (λ i c. x.whole i (each (IsReached world entry) ys y.sound i c))
 
 -- where the image starts
-pub start_once : (object entry : List ℕ) (i j : ℕ) → IsPlain object → IsStart object entry i → IsStart object entry j → i ≡ j
-start_once object entry i j plain x y =
+pub start_once : (world : List Package) (entry : List ℕ) (i j : ℕ) → IsPlain world → IsStart world entry i → IsStart world entry j → i ≡ j
+start_once world entry i j plain x y =
     elim (cases_lt i j) [
-      | inl l ↦ absurd (plain.once i j l y.is_entry.definition (namesake i j x y))
+      | inl l ↦ absurd (plain.once i j l x.is_entry.definition y.is_entry.definition (namesake i j x y))
       | inr g ↦ elim (cases_lt j i) [
-        | inl l ↦ absurd (plain.once j i l x.is_entry.definition (namesake j i y x))
+        | inl l ↦ absurd (plain.once j i l y.is_entry.definition x.is_entry.definition (namesake j i y x))
         | inr h ↦ omega arith
       ]
     ]
   where
-    namesake : (a b : ℕ) → IsStart object entry a → IsStart object entry b → IsNamesake object a b
+    namesake : (a b : ℕ) → IsStart world entry a → IsStart world entry b → IsNamesake world a b
     namesake a b s t = record {
       name = s.is_entry.named ∙ sym t.is_entry.named;
       abi = let below = s.first b t.is_entry in let above = t.first a s.is_entry in omega arith;
     }
 
 -- what the kept definitions call has an address
-pub kept_whole : (object entry kept addrs : List ℕ) → AreKept object entry kept → AreAt object text_start kept addrs
-    → ((i : ℕ) → IsReached object entry i → IsBuilt object i) → AreWhole object (address_of kept addrs) kept
-kept_whole object entry kept addrs k at built = record {
-  built = λ i c. built i (each (IsReached object entry) kept k.sound i c);
+pub kept_whole : (world : List Package) (entry kept addrs : List ℕ) → AreKept world entry kept → AreAt world text_start kept addrs
+    → ((i : ℕ) → IsReached world entry i → IsBuilt world i) → AreWhole world (address_of kept addrs) kept
+kept_whole world entry kept addrs k at built = record {
+  built = λ i c. built i (each (IsReached world entry) kept k.sound i c);
   targets = λ i c j t calls.
-      address_some object text_start kept addrs t at
-      (k.whole t (IsReached-callee i j t (each (IsReached object entry) kept k.sound i c) calls));
+      address_some world text_start kept addrs t at
+      (k.whole t (IsReached-callee i j t (each (IsReached world entry) kept k.sound i c) calls));
 }
 
 -- a section with no size has no bytes
@@ -80,17 +80,17 @@ parts_once p q xs ys x y a b same entry =
       | inr ne ↦ no_bytes p xs x a n (omega (arith, low, ne)) high ∙ sym (no_bytes q ys y b n (omega (arith, low, ne)) high)
     ]
 
--- the image of an object
-pub image_of_once : (object entry a b : List ℕ) → IsPlain object → ((i : ℕ) → IsReached object entry i → IsBuilt object i)
-    → IsImageOf object entry a → IsImageOf object entry b → a ≡ b
-image_of_once object entry a b plain built x y =
-    let kept : y.kept ≡ x.kept = kept_once object entry y.kept x.kept y.are_kept x.are_kept in
-    let at_y : AreAt object text_start x.kept y.addrs = rw kept at y.are_at in
-    let addrs : y.addrs ≡ x.addrs = at_once object text_start x.kept y.addrs x.addrs at_y x.are_at in
-    let text_y : IsTextFrom object (address_of x.kept x.addrs) text_start x.kept x.addrs y.bytes = rw (kept, addrs) at y.is_text in
-    let bytes : x.bytes ≡ y.bytes = text_once object (address_of x.kept x.addrs) text_start x.kept x.addrs x.bytes y.bytes
-    (kept_whole object entry x.kept x.addrs x.are_kept x.are_at built) x.is_text text_y in
-    let start : y.start ≡ x.start = start_once object entry y.start x.start plain y.is_start x.is_start in
+-- the image of a world
+pub image_of_once : (world : List Package) (entry a b : List ℕ) → IsPlain world → ((i : ℕ) → IsReached world entry i → IsBuilt world i)
+    → IsImageOf world entry a → IsImageOf world entry b → a ≡ b
+image_of_once world entry a b plain built x y =
+    let kept : y.kept ≡ x.kept = kept_once world entry y.kept x.kept y.are_kept x.are_kept in
+    let at_y : AreAt world text_start x.kept y.addrs = rw kept at y.are_at in
+    let addrs : y.addrs ≡ x.addrs = at_once world text_start x.kept y.addrs x.addrs at_y x.are_at in
+    let text_y : IsTextFrom world (address_of x.kept x.addrs) text_start x.kept x.addrs y.bytes = rw (kept, addrs) at y.is_text in
+    let bytes : x.bytes ≡ y.bytes = text_once world (address_of x.kept x.addrs) text_start x.kept x.addrs x.bytes y.bytes
+    (kept_whole world entry x.kept x.addrs x.are_kept x.are_at built) x.is_text text_y in
+    let start : y.start ≡ x.start = start_once world entry y.start x.start plain y.is_start x.is_start in
     let starts_y : address_of x.kept x.addrs x.start ≡ Some y.parts.entry = rw (kept, addrs, start) at y.starts in
     let entry_is : x.parts.entry ≡ y.parts.entry = some_once _ _ (sym x.starts ∙ starts_y) in
     let parts : x.parts ≡ y.parts = parts_once x.parts y.parts x.bytes y.bytes x.placed y.placed x.sections y.sections bytes entry_is in
@@ -98,15 +98,3 @@ image_of_once object entry a b plain built x y =
   where
     some_once : (m n : ℕ) → Some m ≡ Some n → m ≡ n
     some_once m n e = cc
-
--- the image of the files
-pub image_once : (files : Contents) (main entry a b : List ℕ) → IsImage files main entry a → IsImage files main entry b → a ≡ b
-image_once files main entry a b x y =
-    let file : y.file ≡ x.file = same_file y.file x.file y.there x.there in
-    let P : List ℕ → Type 0 = λ f. IsLinkable f y.object in
-    let object : y.object ≡ x.object = bare_once x.file y.object x.object (subst P file y.linkable).bare x.linkable.bare in
-    let Q : List ℕ → Type 0 = λ o. IsImageOf o entry b in
-    image_of_once x.object entry a b x.linkable.plain x.built x.image_of (subst Q object y.image_of)
-  where
-    same_file : (f g : List ℕ) → file_in files main ≡ Some f → file_in files main ≡ Some g → f ≡ g
-    same_file f g u v = cc

@@ -1,3 +1,9 @@
+pub mod Rows
+pub mod RowLaws
+pub mod TargetLaws
+pub mod OfferTables
+pub mod ImportedSteps
+pub mod DefinitionCounts
 pub mod Derivations
 pub mod Each
 pub mod Growth
@@ -12,5 +18,9 @@ pub mod FieldSteps
 pub mod TextSteps
 pub mod ImageSteps
 pub mod ImageOnce
+pub mod RefusedOnce
 pub mod FirstOnce
 pub mod AnswerLemmas
+pub mod LoadLemmas
+pub mod ConfigSteps
+pub mod WorldSteps

@@ -1,6 +1,9 @@
-pub mod Bare
 pub mod Flags
 pub mod Names
+pub mod World
+pub mod Targets
+pub mod Tables
+pub mod Auxes
 pub mod Plain
 pub mod Namesakes
 pub mod Reach
@@ -8,7 +11,9 @@ pub mod Marks
 pub mod Built
 pub mod Layout
 pub mod Contents
+pub mod Plans
 pub mod Image
+pub mod Refusals
 pub mod First
 pub mod Answers
 pub mod Stages
