@@ -1,2 +1,4 @@
-pub mod WordLemmas
-pub mod AnswerLemmas
+pub mod Given
+pub mod Due
+pub mod Made
+pub mod Shown

@@ -1,77 +1,88 @@
 -- What each outcome means.
-use Rattle.std.specs.Prelude.{◌≡◌, ◌⊎◌, ℕ, List, Option, Some, None, Result, Ok, Err, ⊤}
+use Rattle.std.specs.Prelude.{◌≡◌, ◌⊎◌, ℕ, List, Result, Ok, Err, MatchResult, ⊤}
 use Rattle.glk_base.specs.declared.cause.Cause.{Cause}
 use Rattle.glk_base.specs.declared.cause.Cause.TheVariants as cause
 use Rattle.glk_base.specs.declared.cause.Form.TheVariants as form
 use Rattle.glk_base.specs.declared.fault.Fault.{Fault}
-use Rattle.glk_base.specs.declared.fault.Fault.TheVariants as fault
-use Rattle.glk_io.specs.Counts.{Rose}
-use Rattle.glk_io.specs.Contents.{WhereTold, Stays}
-use Rattle.glk_link.specs.Answers.{Change, Linked, Spoiled}
+use Rattle.glk_words.specs.declared.commands.Command.{Command}
+use Rattle.glk_words.specs.declared.commands.Command.TheVariants as command
+use Rattle.glk_words.specs.declared.usage.UsageBad.{UsageBad}
+use Rattle.glk_words.specs.Order.{Task, Demand, help, version, task, demand_of}
+use Rattle.glk_link.specs.First.{AsksUnbuilt}
+use Rattle.glk_link.specs.declared.options.Report.{Report}
+use Rattle.glk_link.specs.Answers.{Change, Means as MeansOfLink, IsComplete as IsCompleteOfLink}
 use Rattle.glk_link.specs.declared.options.LinkOptions.{LinkOptions}
-use Rattle.golink.specs.Words.{IsOrder, IsNoOrder}
-use Rattle.golink.specs.First.{IsFirst}
+use Rattle.golink.specs.Words.{IsLink}
+use Rattle.golink.specs.Changes.{Untouched, Growth, Silent, outcome_of}
+use Rattle.golink.specs.Help.{help_text, version_text}
+use Rattle.golink.specs.Printing.{Prints}
+use Rattle.golink.specs.Making.{Makes}
+use Rattle.golink.specs.Dumping.{Shows}
 use Rattle.golink.specs.declared.outcome.Outcome.{Outcome}
 use Rattle.golink.specs.declared.outcome.Outcome.TheVariants as outcome
 
--- the words ask for a link, and this holds of it
-abbrev pub Ordered : List (List ℕ) → (LinkOptions → Type 0) → Type 0
-Ordered words P = (opts : LinkOptions) × IsOrder words opts × P opts
+-- the outcome is that of an answer of this link, and means what that answer means; the answer is
+-- the one that is due. What is not built yet is told whatever the files hold, and touches none.
+pub record Links (change : Change) (opts : LinkOptions) (o : Outcome) : Type 0 where
+  pub answer : Result Report (Fault Cause)
+  pub told : o ≡ outcome_of answer
+  pub means : MeansOfLink change opts answer
+  pub complete : IsCompleteOfLink change opts answer
+  pub unbuilt : AsksUnbuilt opts → (o ≡ outcome.Refused (cause.NotYet form.Flag)) × Untouched change
 
--- the words ask for a link
-abbrev pub HasOrder : List (List ℕ) → Type 0
-HasOrder words = Ordered words (λ opts. ⊤)
+-- a form that is not built yet, and nothing was done
+pub record IsUnbuilt (change : Change) (refusal : Cause) (o : Outcome) : Type 0 where
+  pub outcome : o ≡ outcome.Refused refusal
+  pub files : Untouched change
 
--- no file has changed, and told files have this refusal first
-abbrev pub Refuses : Change → List (List ℕ) → Cause → Type 0
-Refuses change words refusal =
-    Stays change.before change.now × WhereTold change.before (λ files. IsFirst files words (Some refusal))
+-- what `link` does; want of memory may stop it before it begins
+abbrev pub LinksWords : Change → Task → Outcome → Type 0
+LinksWords change t o = ((o ≡ outcome.OutOfMemory) × Untouched change) ⊎ ((opts : LinkOptions) × IsLink t opts × Links change opts o)
 
--- the table of outcomes
-abbrev pub Means : Change → List (List ℕ) → Outcome → Type 0
-Means change words outcome.Done = Ordered words (λ opts. Linked change opts)
-Means change words (outcome.Refused (cause.ReadFault path count)) =
-    Stays change.before change.now × Ordered words (λ opts. path ≡ opts.main)
-    × (count ≡ change.reads_now) × Rose change.reads_before change.reads_now
-Means change words (outcome.Refused (cause.WriteFault path count)) =
-    Ordered words (λ opts. Spoiled change opts × (path ≡ opts.out))
-    × (count ≡ change.writes_now) × Rose change.writes_before change.writes_now
-Means change words (outcome.Refused (cause.Absent path)) =
-    Refuses change words (cause.Absent path) × Ordered words (λ opts. path ≡ opts.main)
-    × (change.reads_now ≡ change.reads_before)
-Means change words (outcome.Refused (cause.NotYet form.Words)) =
-    Refuses change words (cause.NotYet form.Words) × IsNoOrder words
-Means change words (outcome.Refused (cause.NotYet f)) = Refuses change words (cause.NotYet f) × HasOrder words
-Means change words (outcome.Refused (cause.Undefined from name)) =
-    Refuses change words (cause.Undefined from name) × HasOrder words
-Means change words (outcome.Usage bad) = ⊥
-Means change words outcome.OutOfMemory = Stays change.before change.now × HasOrder words
+-- what a command does; `dump` alone writes to standard output
+abbrev pub Works : Change → Growth → Task → Command → Outcome → Type 0
+Works change out t command.Link o = Silent out × LinksWords change t o
+Works change out t command.Mkobj o = Silent out × Makes change t o
+Works change out t command.Dump o = Shows change out t.file o
+Works change out t c o = Silent out × IsUnbuilt change (cause.NotYet form.Command) o
 
--- the outcome that a first refusal asks for: done where there is none
-abbrev pub IsAnswer : Option Cause → Outcome → Type 0
-IsAnswer None result = result ≡ outcome.Done
-IsAnswer (Some refusal) result = result ≡ outcome.Refused refusal
+-- what the words ask for is done
+abbrev pub Does : Change → Growth → Demand → Outcome → Type 0
+Does change out help o = Untouched change × Prints help_text out o
+Does change out version o = Untouched change × Prints version_text out o
+Does change out (task t) o = Works change out t t.command o
 
--- it comes, or memory was wanting, where no fault of the files stands before it: no count rose,
--- or for a refusal that of reads did not
-abbrev pub IsDue : Change → Option Cause → Outcome → Type 0
-IsDue change None result =
-    ¬ Rose change.reads_before change.reads_now → ¬ Rose change.writes_before change.writes_now
-    → IsAnswer None result ⊎ (result ≡ outcome.OutOfMemory)
-IsDue change (Some refusal) result =
-    ¬ Rose change.reads_before change.reads_now → IsAnswer (Some refusal) result ⊎ (result ≡ outcome.OutOfMemory)
+-- nothing was done, and the outcome is the expected one
+pub record IsUsage (change : Change) (out : Growth) (o expected : Outcome) : Type 0 where
+  pub outcome : o ≡ expected
+  pub files : Untouched change
+  pub silent : Silent out
 
--- told files have the outcome that their first refusal asks for
-abbrev pub IsComplete : Change → List (List ℕ) → Outcome → Type 0
-IsComplete change words result =
-    WhereTold change.before (λ files. (first : Option Cause) → IsFirst files words first → IsDue change first result)
+-- The words ask for nothing that is printed: they are faulty, or of another command than `dump`.
+abbrev pub PrintsNothing : Result Demand UsageBad → Type 0
+PrintsNothing (Err bad) = ⊤
+PrintsNothing (Ok help) = ⊥
+PrintsNothing (Ok version) = ⊥
+PrintsNothing (Ok (task t)) = ¬ (t.command ≡ command.Dump)
 
--- the refusal of words that ask for nothing
-abbrev pub not_built_words : Outcome
-not_built_words = outcome.Refused (cause.NotYet form.Words)
+-- these commands are built
+abbrev pub IsBuilt : Command → Type 0
+IsBuilt command.Link = ⊤
+IsBuilt command.Mkobj = ⊤
+IsBuilt command.Dump = ⊤
+IsBuilt c = ⊥
 
--- the outcome of a link
-abbrev pub outcome_of : Result (Unit {0}) (Fault Cause) → Outcome
-outcome_of (Ok done) = outcome.Done
-outcome_of (Err (fault.Bad refusal)) = outcome.Refused refusal
-outcome_of (Err fault.OutOfMemory) = outcome.OutOfMemory
+-- The words ask for nothing for which a file is opened: they are faulty, or of a command that is not built yet, or for
+-- the texts of the program itself.
+abbrev pub OpensNothing : Result Demand UsageBad → Type 0
+OpensNothing (Err bad) = ⊤
+OpensNothing (Ok help) = ⊤
+OpensNothing (Ok version) = ⊤
+OpensNothing (Ok (task t)) = ¬ IsBuilt t.command
+
+-- the table of outcomes: what the words ask for is done, or they are faulty, or memory was wanting
+-- to read them
+abbrev pub Means : Change → Growth → List (List ℕ) → Outcome → Type 0
+Means change out words o =
+    MatchResult (demand_of words) (λ demand. Does change out demand o) (λ bad. IsUsage change out o (outcome.Usage bad))
+    ⊎ IsUsage change out o outcome.OutOfMemory

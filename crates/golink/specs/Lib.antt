@@ -1,5 +1,11 @@
 pub mod Words
-pub mod First
-pub mod Answers
 pub mod Messages
+pub mod Help
+pub mod Changes
+pub mod Inputs
+pub mod Making
+pub mod Printing
+pub mod Dumping
+pub mod Answers
 pub mod Status
+pub mod Unreadable

@@ -1,8 +1,9 @@
 // The words that the system gives the program.
 ghost use Rattle.std.specs.Prelude.{IfErr};
-ghost use Rattle.golink.specs.Words.{IsUnreadable};
+ghost use Rattle.golink.specs.Unreadable.{IsUnreadable};
 
-use crate::outcome::{Outcome, UsageBad, Why};
+use crate::outcome::Outcome;
+use glk_words::{UsageBad, Why};
 use std::alloc::{AllocError, Global};
 use std::env::FillError;
 use std::rt::Env;

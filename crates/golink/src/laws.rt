@@ -1,10 +1,14 @@
-// What holds of all refusals: a law of the definitions, which is proved with this function and
-// costs nothing when it runs.
-ghost use Rattle.golink.specs.First.{IsOneFirst};
+// What holds of all files: laws of the definitions, which are proved with these functions and cost
+// nothing when they run.
+ghost use Rattle.golink.specs.Making.{IsOneMade};
+ghost use Rattle.golink.specs.Dumping.{IsOneShown};
 
-/// Any two first refusals of the same files and words are the same.
-pub fn one_first()
-    ensures { IsOneFirst }
-{
-    glk_link::one_first()
-}
+/// For the text at a path there is one archive, or one first refusal, and not both.
+pub fn one_made()
+    ensures { IsOneMade }
+{}
+
+/// For the package file at a path there is one text, or one first refusal, and not both.
+pub fn one_shown()
+    ensures { IsOneShown }
+{}

@@ -2,13 +2,20 @@
 #![tactic(auto)]
 
 mod arguments;
+mod dumping;
+mod help;
+mod inputs;
 mod laws;
+mod linking;
+mod making;
 mod outcome;
+mod printing;
+mod refusals;
 mod report;
 mod run;
 #[cfg(test)]
 mod tests;
-mod words;
+mod wording;
 
 use glk_io::{OsFiles, OsSink, OsSource};
 use std::process::ExitCode;

@@ -1,8 +1,10 @@
 // How the program ends.
 ghost use Rattle.std.specs.Prelude.{◌≡◌};
+ghost use Rattle.golink.specs.Changes.{outcome_of_fault};
 ghost use Rattle.golink.specs.Status.{status_of};
 
-use glk_base::Cause;
+use glk_base::{Cause, Fault};
+use glk_words::UsageBad;
 
 /// How the program ended.
 #[derive(Debug, Drop, PartialEq)]
@@ -15,27 +17,17 @@ pub enum Outcome {
     OutOfMemory,
 }
 
-/// Where the command line is faulty. Words are counted after the program's name, from 0.
-#[derive(Clone, Copy, Debug, PartialEq, Eq)]
-pub struct UsageBad {
-    pub word: u32,
-    pub why: Why,
-}
-
-/// What is wrong with a word of the command line.
-#[derive(Clone, Copy, Debug, PartialEq, Eq)]
-pub enum Why {
-    NoCommand,
-    UnknownCommand,
-    UnknownFlag,
-    BadSyntax,
-    MissingValue,
-    BadValue,
-    MissingFile,
-    ExtraWord,
-}
-
 impl Outcome {
+    /// The outcome of a fault.
+    pub fn of_fault(stop: Fault<Cause>) -> Outcome
+        ensures { result ≡ outcome_of_fault stop }
+    {
+        match stop {
+            Fault::Bad(refusal) => Outcome::Refused(refusal),
+            Fault::OutOfMemory => Outcome::OutOfMemory,
+        }
+    }
+
     /// The program's exit status.
     pub fn status(&self) -> u8
         ensures { result ≡ status_of self.now }
