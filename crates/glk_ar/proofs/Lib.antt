@@ -1,4 +1,4 @@
 pub mod Digits
-pub mod Front
+pub mod WholeWalks
 pub mod Once
 pub mod WrittenLemmas

@@ -2,12 +2,12 @@
 use Rattle.std.proofs.Common.{◌≡◌, ℕ, ◌+◌, ◌<◌, List, [], ◌∷◌, length, drop, Option, Some, None, Result, Ok, Err, ap, sym, refl, ◌∙◌, inl, inr, arith}
 use Rattle.std.proofs.lemmas.Bool.{cases_order}
 use Rattle.glk_ar.specs.declared.walk.ArBad.{ArBad}
-use Rattle.glk_ar.specs.Member.{FirstBroken, rule_offset}
+use Rattle.glk_ar.specs.Member.{BreaksFirst, rule_offset}
 use Rattle.glk_ar.specs.Part.{Part, mark, IsFirstMark, HoldsPart}
-use Rattle.glk_ar.specs.Archive.{Entry, IsRefused, IsRun, after, first_place, Archive}
+use Rattle.glk_ar.specs.Archive.{Entry, IsRefused, IsRun, after, first_offset, Archive}
 
 -- of the broken rules one has the least number
-pub one_broken : (s : List ℕ) (one other : ℕ) → FirstBroken s one → FirstBroken s other → one ≡ other
+pub one_broken : (s : List ℕ) (one other : ℕ) → BreaksFirst s one → BreaksFirst s other → one ≡ other
 one_broken s one other first second = elim (cases_order one other) [
   | inl same ↦ same
   | inr (inl less) ↦ absurd (first.0 (second.1 one less))
@@ -33,9 +33,9 @@ one_run b p [] [] None (Some bad) first second = let inside : p < length b = sec
 one_run b p [] [] (Some bad) None first second = let inside : p < length b = first.inside in absurd (omega arith)
 one_run b p [] [] (Some bad) (Some worse) first second = record { members = refl; ends = ap (λ r. Some r) (one_refusal b p bad worse first second) }
 one_run b p [] (e ∷ es) None end first second = let inside : p < length b = second.0.inside in absurd (omega arith)
-one_run b p [] (e ∷ es) (Some bad) end first second = absurd (first.rule.0 (second.0.stands bad.rule))
+one_run b p [] (e ∷ es) (Some bad) end first second = absurd (first.rule.0 (second.0.member bad.rule))
 one_run b p (e ∷ es) [] last None first second = let inside : p < length b = first.0.inside in absurd (omega arith)
-one_run b p (e ∷ es) [] last (Some bad) first second = absurd (second.rule.0 (first.0.stands bad.rule))
+one_run b p (e ∷ es) [] last (Some bad) first second = absurd (second.rule.0 (first.0.member bad.rule))
 one_run b p (e ∷ es) (d ∷ ds) last end first second =
     let rest : IsSameRun es ds last end = one_run b (after b p) es ds last end first.1 second.1 in
     let here : e ≡ d = first.0.entry ∙ sym second.0.entry in
@@ -43,16 +43,16 @@ one_run b p (e ∷ es) (d ∷ ds) last end first second =
     record { members = cc; ends = rest.ends }
 
 pub one_archive : (b : List ℕ) (one other : Result (List Entry) ArBad) → Archive b one → Archive b other → one ≡ other
-one_archive b (Ok es) (Ok ds) first second = ap (λ r. Ok r) (one_run b first_place es ds None None first.1 second.1).members
+one_archive b (Ok es) (Ok ds) first second = ap (λ r. Ok r) (one_run b first_offset es ds None None first.1 second.1).members
 one_archive b (Ok es) (Err bad) first (inl none) = absurd (none.0 first.0)
-one_archive b (Ok es) (Err bad) first (inr run) = let same : IsSameRun es run.1 None (Some bad) = one_run b first_place es run.1 None (Some bad) first.1 run.2 in let none : Option ArBad = None in let e : none ≡ Some bad = same.ends in cc
+one_archive b (Ok es) (Err bad) first (inr run) = let same : IsSameRun es run.1 None (Some bad) = one_run b first_offset es run.1 None (Some bad) first.1 run.2 in let none : Option ArBad = None in let e : none ≡ Some bad = same.ends in cc
 one_archive b (Err bad) (Ok es) (inl none) second = absurd (none.0 second.0)
-one_archive b (Err bad) (Ok es) (inr run) second = let same : IsSameRun es run.1 None (Some bad) = one_run b first_place es run.1 None (Some bad) second.1 run.2 in let none : Option ArBad = None in let e : none ≡ Some bad = same.ends in cc
+one_archive b (Err bad) (Ok es) (inr run) second = let same : IsSameRun es run.1 None (Some bad) = one_run b first_offset es run.1 None (Some bad) second.1 run.2 in let none : Option ArBad = None in let e : none ≡ Some bad = same.ends in cc
 one_archive b (Err bad) (Err worse) (inl none) (inl other) = ap (λ r. Err r) (none.1 ∙ sym other.1)
 one_archive b (Err bad) (Err worse) (inl none) (inr run) = absurd (none.0 run.0)
 one_archive b (Err bad) (Err worse) (inr run) (inl none) = absurd (none.0 run.0)
 one_archive b (Err bad) (Err worse) (inr run) (inr other) =
-    let same : IsSameRun run.1 other.1 (Some bad) (Some worse) = one_run b first_place run.1 other.1 (Some bad) (Some worse) run.2 other.2 in
+    let same : IsSameRun run.1 other.1 (Some bad) (Some worse) = one_run b first_offset run.1 other.1 (Some bad) (Some worse) run.2 other.2 in
     let e : Some bad ≡ Some worse = same.ends in
     let f : bad ≡ worse = cc in
     ap (λ r. Err r) f
@@ -69,7 +69,7 @@ pub one_part : (body : List ℕ) (one other : Part) → HoldsPart body one → H
 one_part body one other first second =
     let marks : first.mark_at ≡ second.mark_at = one_mark body first.mark_at second.mark_at first.first second.first in
     let at : one.at ≡ other.at = first.at ∙ ap (λ m. m + length mark) marks ∙ sym second.at in
-    let goobj : one.goobj ≡ other.goobj = first.behind ∙ ap (λ k. drop k body) at ∙ sym second.behind in
+    let goobj : one.goobj ≡ other.goobj = first.goobj ∙ ap (λ k. drop k body) at ∙ sym second.goobj in
     let line : one.line ≡ other.line = first.line ∙ sym second.line in
     let by_line : List ℕ → Part = λ l. record { line = l; goobj = one.goobj; at = one.at } in
     let by_goobj : List ℕ → Part = λ g. record { line = other.line; goobj = g; at = one.at } in

@@ -15,7 +15,7 @@ IsOneArchive = (b : List ℕ) (one other : Result (List Entry) ArBad) → Archiv
 abbrev pub IsOnePart : Type 0
 IsOnePart = (body : List ℕ) (one other : Part) → HoldsPart body one → HoldsPart body other → one ≡ other
 
--- A walk that starts behind the magic has passed nothing, each step to a member passes this one,
+-- A walk that starts after the magic has passed nothing, each step to a member passes this one,
 abbrev pub StartsWalked : Type 0
 StartsWalked = (b : List ℕ) → HasMagic b → Walked b [] (walk_from_start b)
 

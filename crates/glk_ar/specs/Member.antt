@@ -22,40 +22,40 @@ mode_width = 8
 abbrev pub size_width : ℕ
 size_width = 10
 
--- a size has at most so many digits
+-- the most digits of a size
 abbrev pub most_digits : ℕ
 most_digits = size_width
 
--- Behind them stand a backquote and a newline.
+-- After them come a backquote and a newline.
 abbrev pub header_end : List ℕ
 header_end = 96 ∷ 10 ∷ []
 
-abbrev pub size_place : ℕ
-size_place = name_width + time_width + user_width + group_width + mode_width
+abbrev pub size_offset : ℕ
+size_offset = name_width + time_width + user_width + group_width + mode_width
 
-abbrev pub end_place : ℕ
-end_place = size_place + size_width
+abbrev pub end_offset : ℕ
+end_offset = size_offset + size_width
 
 abbrev pub header_length : ℕ
-header_length = end_place + 2
+header_length = end_offset + 2
 
 abbrev pub space : ℕ
 space = 32
 
 -- a field without the spaces at its end
-abbrev pub trimmed : List ℕ → List ℕ
-trimmed field = take (length field - suffix_len (λ x. x == space) field) field
+abbrev pub field_text : List ℕ → List ℕ
+field_text field = take (length field - suffix_len (λ x. x == space) field) field
 
 abbrev pub header_of : List ℕ → List ℕ
 header_of s = take header_length s
 
 abbrev pub name_of : List ℕ → List ℕ
-name_of s = trimmed (take name_width (header_of s))
+name_of s = field_text (take name_width (header_of s))
 
 abbrev pub size_field : List ℕ → List ℕ
-size_field s = trimmed (slice_range (header_of s) size_place end_place)
+size_field s = field_text (slice_range (header_of s) size_offset end_offset)
 
--- The size counts the bytes of the body; leading zeros stand.
+-- The size is the number of bytes of the body; it may have leading zeros.
 abbrev pub size_of : List ℕ → ℕ
 size_of s = digits_value 10 (size_field s)
 
@@ -100,12 +100,12 @@ Keeps s rule =
 
 -- where a broken rule points to, from the header on
 abbrev pub rule_offset : ℕ → ℕ
-rule_offset rule = cond (rule == 3) end_place (cond (rule == 4) size_place (cond (rule == 5) header_length 0))
+rule_offset rule = cond (rule == 3) end_offset (cond (rule == 4) size_offset (cond (rule == 5) header_length 0))
 
--- A member stands here: no rule is broken.
-abbrev pub Stands : List ℕ → Type 0
-Stands s = (rule : ℕ) → Keeps s rule
+-- The bytes begin with a member: no rule is broken.
+abbrev pub IsMember : List ℕ → Type 0
+IsMember s = (rule : ℕ) → Keeps s rule
 
 -- Of the rules that are broken here this one has the least number.
-abbrev pub FirstBroken : List ℕ → ℕ → Type 0
-FirstBroken s rule = (¬ Keeps s rule) × ((k : ℕ) → k < rule → Keeps s k)
+abbrev pub BreaksFirst : List ℕ → ℕ → Type 0
+BreaksFirst s rule = (¬ Keeps s rule) × ((k : ℕ) → k < rule → Keeps s k)

@@ -4,13 +4,14 @@
 
 mod headers;
 mod laws;
-mod part;
+mod object_parts;
 #[cfg(test)]
 mod tests;
 mod walk;
-mod written;
+mod write;
 
+pub use headers::HEADER_LENGTH;
 pub use laws::{one_archive, one_part, walks_are_whole};
-pub use part::{ObjectPart, PartBad, object_part};
+pub use object_parts::{MARK_RULE, ObjectPart, PartBad, object_part};
 pub use walk::{ArBad, Member, MemberIter, members};
-pub use written::one_member;
+pub use write::one_member;

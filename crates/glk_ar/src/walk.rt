@@ -1,16 +1,16 @@
 // The members of an archive, one after another.
-ghost use Rattle.std.specs.Prelude.{◌≡◌, ◌+◌, ◌%◌, ◌≤◌, IfOk, IfErr, min};
-ghost use Rattle.glk_ar.specs.Archive.{HasMagic, is_no_archive};
-ghost use Rattle.glk_ar.specs.Walks.{walk_from_start};
+ghost use Rattle.std.specs.Prelude.{◌≡◌, ◌+◌, ◌%◌, ◌<◌, ◌≤◌, ◌^◌, IfOk, IfErr, min};
+ghost use Rattle.glk_ar.specs.Archive.{HasMagic, no_magic, body_at};
+ghost use Rattle.glk_ar.specs.Walks.{walk_from_start, entry_of};
 
-use crate::headers::{HEADER_LENGTH, member_at_front};
+use crate::headers::{HEADER_LENGTH, first_member};
 use std::marker::Model;
 use thiserror::Error;
 
 /// What an archive begins with.
-pub const MAGIC: &[u8; 8] = b"!<arch>\n";
+pub(crate) const MAGIC: &[u8; 8] = b"!<arch>\n";
 
-/// The number of the rule that the file begins with the magic.
+// The number of the rule that the file begins with the magic.
 const MAGIC_RULE: u8 = 1;
 
 /// The first broken rule of an archive, and where it is broken.
@@ -18,9 +18,9 @@ const MAGIC_RULE: u8 = 1;
 #[error("no archive: rule A{rule} is broken at byte {offset}")]
 pub struct ArBad {
     /// The rule's number, 1 to 6 for A1 to A6: the least of those that are broken at the first
-    /// place where no member stands.
+    /// offset where there is no member.
     pub rule: u8,
-    /// The place in the file that the rule speaks of.
+    /// The offset in the file that the rule speaks of.
     pub offset: u64,
 }
 
@@ -31,8 +31,18 @@ pub struct Member<'a> {
     pub name: &'a [u8],
     /// The body, without padding.
     pub body: &'a [u8],
-    /// The place of the header in the file.
+    /// The offset of the header in the file.
     pub at: u64,
+}
+
+impl<'a> Member<'a> {
+    /// The offset of the body in the file.
+    pub fn body_at(self) -> u64
+        requires { body_at (entry_of self) < 2 ^ 64 }
+        ensures { result ≡ body_at (entry_of self.entry) }
+    {
+        self.at + HEADER_LENGTH as u64
+    }
 }
 
 /// The members of an archive, one after another, borrowed from the file: each as `Ok`, then, where
@@ -54,13 +64,15 @@ impl<'a> Model for MemberIter<'a> {
     ghost invariant = { λ i. i.at ≤ length i.bytes.now };
 }
 
-/// The members of these bytes, or rule A1 where they do not begin with the magic. It takes no
-/// memory, and looks at the magic alone.
+/// The members of these bytes. It takes no memory, and looks at the magic alone.
+///
+/// # Errors
+/// Rule A1 exactly where they do not begin with the magic.
 pub fn members(bytes: &[u8]) -> Result<MemberIter<'_>, ArBad>
     ensures magic { IfOk result (λ _. HasMagic bytes.now) }
     ensures start { IfOk result (λ walk. walk ≡ walk_from_start bytes.now) }
     ensures other { IfErr result (λ _. ¬ HasMagic bytes.now) }
-    ensures err { IfErr result (λ bad. bad ≡ is_no_archive) }
+    ensures err { IfErr result (λ bad. bad ≡ no_magic) }
 {
     if bytes.starts_with(MAGIC) {
         Ok(MemberIter {
@@ -92,12 +104,12 @@ impl<'a> Iterator for MemberIter<'a> {
         if at == bytes.len() {
             return None;
         }
-        match member_at_front(&bytes[at..]) {
-            Ok(front) => {
-                self.at = place_after(at + HEADER_LENGTH + front.body.len(), bytes.len());
+        match first_member(&bytes[at..]) {
+            Ok(member) => {
+                self.at = next_offset(at + HEADER_LENGTH + member.body.len(), bytes.len());
                 Some(Ok(Member {
-                    name: front.name,
-                    body: front.body,
+                    name: member.name,
+                    body: member.body,
                     at: at as u64,
                 }))
             }
@@ -112,8 +124,8 @@ impl<'a> Iterator for MemberIter<'a> {
     }
 }
 
-/// Where the next header stands: at an even place, or at the end of the file.
-fn place_after(end: usize, length: usize) -> usize
+// Where the next header is: at an even offset, or at the end of the file.
+fn next_offset(end: usize, length: usize) -> usize
     requires { end ≤ length }
     ensures { result ≡ min (end + end % 2) length }
 {

@@ -7,7 +7,7 @@ use Rattle.std.proofs.lemmas.Bool.{cases_order, false≢true, eqb-true}
 use Rattle.std.proofs.lemmas.List.Sums.{passes_at_first}
 use Rattle.std.proofs.lemmas.Str.{IsUtf8-drop, IsCharBoundary-after_ascii, IsUtf8-from_is_utf8}
 use denote.Ref.{Bor}
-use Rattle.glk_base.specs.Lines.{is_passed, line_at, lines, trimmed, left_lines, IsCut, IsFirstBad, HasRead}
+use Rattle.glk_base.specs.Lines.{is_skipped, line_at, lines, trimmed_line, left_lines, IsCut, IsFirstBad, HasRead}
 use Rattle.glk_base.proofs.Cuts.{start_read, next_line, read_good, read_bad, read_whole}
 use Rattle.glk_arena.specs.Config.{packagefile, modinfo, is_equals_sign, Lists, IsGood, IsGoodLine, IsLastFile}
 
@@ -21,7 +21,7 @@ modinfo_first [] h = let same : modinfo ≡ [] = same_text modinfo [] (sym h) in
 modinfo_first (x ∷ t) h = sym (ap (λ (l : List ℕ). get_or l 0 0) (same_text modinfo (take 8 (x ∷ t)) (sym h)))
 
 -- such a line is not passed over, and does not tell modules
-pub package_not_passed : (t : List ℕ) → starts_with nat_eq t packagefile ≡ true → is_passed t ≡ true → ⊥
+pub package_not_passed : (t : List ℕ) → starts_with nat_eq t packagefile ≡ true → is_skipped t ≡ true → ⊥
 package_not_passed [] word passed = let same : packagefile ≡ [] = same_text packagefile [] (sym word) in cc
 package_not_passed (x ∷ t) word passed =
     let first : x ≡ 112 = package_first (x ∷ t) word in
@@ -30,19 +30,19 @@ package_not_passed (x ∷ t) word passed =
 pub package_no_modinfo : (t : List ℕ) → starts_with nat_eq t packagefile ≡ true → starts_with nat_eq t modinfo ≡ true → ⊥
 package_no_modinfo t word other = let p : get_or t 0 0 ≡ 112 = package_first t word in let m : get_or t 0 0 ≡ 109 = modinfo_first t other in omega arith
 
-pub passed_lists_none : (t : List ℕ) → is_passed t ≡ true → (path file : List ℕ) → Lists t path file → ⊥
+pub passed_lists_none : (t : List ℕ) → is_skipped t ≡ true → (path file : List ℕ) → Lists t path file → ⊥
 passed_lists_none t passed path file lists = package_not_passed t lists.word passed
 
 pub modinfo_lists_none : (t : List ℕ) → starts_with nat_eq t modinfo ≡ true → (path file : List ℕ) → Lists t path file → ⊥
 modinfo_lists_none t word path file lists = package_no_modinfo t lists.word word
 
 -- no other line is good
-pub otherwise_bad : (t : List ℕ) → is_passed t ≡ false → starts_with nat_eq t packagefile ≡ false → starts_with nat_eq t modinfo ≡ false → IsGood t → ⊥
+pub otherwise_bad : (t : List ℕ) → is_skipped t ≡ false → starts_with nat_eq t packagefile ≡ false → starts_with nat_eq t modinfo ≡ false → IsGood t → ⊥
 otherwise_bad t passed word other (inl yes_) = false≢true (sym passed ∙ yes_)
 otherwise_bad t passed word other (inr (inl told)) = false≢true (sym other ∙ told.word)
 otherwise_bad t passed word other (inr (inr lists)) = false≢true (sym word ∙ lists.2.word)
 
-pub no_text_bad : (t : List ℕ) → is_passed t ≡ false → is_utf8 t ≡ false → IsGood t → ⊥
+pub no_text_bad : (t : List ℕ) → is_skipped t ≡ false → is_utf8 t ≡ false → IsGood t → ⊥
 no_text_bad t passed text (inl yes_) = false≢true (sym passed ∙ yes_)
 no_text_bad t passed text (inr (inl told)) = false≢true (sym text ∙ told.text)
 no_text_bad t passed text (inr (inr lists)) = false≢true (sym text ∙ lists.2.text)
@@ -158,14 +158,14 @@ start_taken text file_at none =
 
 -- the next line, without its blanks
 next_taken : (ls : List (List ℕ)) (n : ℕ) (text : Bor (List ℕ)) (line t : List ℕ) (rest : Option (Bor (List ℕ))) (number : ℕ)
-    → HasRead ls (IsGoodLine ls) n (Some text) number → IsCut text.now line rest → t ≡ trimmed line → t ≡ line_at ls n
+    → HasRead ls (IsGoodLine ls) n (Some text) number → IsCut text.now line rest → t ≡ trimmed_line line → t ≡ line_at ls n
 next_taken ls n text line t rest number read cut is =
     let found : (n < length ls) × (get_or ls n [] ≡ line) × (drop (n + 1) ls ≡ left_lines rest) = next_line ls (IsGoodLine ls) n text line rest number read cut in
-    is ∙ ap trimmed (sym found.1)
+    is ∙ ap trimmed_line (sym found.1)
 
 -- a good line more
 pub more_taken : (ls : List (List ℕ)) (text : Bor (List ℕ)) (line t : List ℕ) (rest : Option (Bor (List ℕ))) (number next : ℕ) (before now : List ℕ → Option (List ℕ))
-    → HasTaken ls (Some text) number before → IsCut text.now line rest → t ≡ trimmed line → IsGood t → next ≡ min (number + 1) (2 ^ 32 - 1)
+    → HasTaken ls (Some text) number before → IsCut text.now line rest → t ≡ trimmed_line line → IsGood t → next ≡ min (number + 1) (2 ^ 32 - 1)
     → ((path : List ℕ) → ((file : List ℕ) × Lists t path file × (now path ≡ Some file)) ⊎ (((file : List ℕ) → Lists t path file → ⊥) × (now path ≡ before path)))
     → HasTaken ls rest next now
 more_taken ls text line t rest number next before now had cut is good next_is takes =
@@ -181,7 +181,7 @@ more_taken ls text line t rest number next before now had cut is good next_is ta
 
 -- a bad line is the first one
 pub wrong_taken : (ls : List (List ℕ)) (text : Bor (List ℕ)) (line t : List ℕ) (rest : Option (Bor (List ℕ))) (number : ℕ) (before : List ℕ → Option (List ℕ))
-    → HasTaken ls (Some text) number before → IsCut text.now line rest → t ≡ trimmed line → (IsGood t → ⊥) → IsFirstBad ls (IsGoodLine ls) number
+    → HasTaken ls (Some text) number before → IsCut text.now line rest → t ≡ trimmed_line line → (IsGood t → ⊥) → IsFirstBad ls (IsGoodLine ls) number
 wrong_taken ls text line t rest number before had cut is bad =
     let here : t ≡ line_at ls had.taken = next_taken ls had.taken text line t rest number had.read cut is in
     read_bad ls (IsGoodLine ls) had.taken text line rest number had.read cut (λ good. bad (subst IsGood (sym here) good))

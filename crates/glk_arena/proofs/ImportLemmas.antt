@@ -1,5 +1,5 @@
 -- Imports: what is compared with a wave, what is missing, and what is listed next.
-use Rattle.std.proofs.Common.{◌≡◌, ◌<◌, ◌≤◌, ◌+◌, ◌++◌, ◌∷◌, ◌||◌, ◌&&◌, not, [], ℕ, suc, Bool, true, false, List, length, get_or, drop, cond, refl, ap, sym, ◌∙◌, add-one, append_assoc, drop-cons, Some, None}
+use Rattle.std.proofs.Common.{◌≡◌, ◌<◌, ◌≤◌, ◌+◌, ◌++◌, ◌∷◌, ◌||◌, ◌&&◌, not, [], ℕ, suc, Bool, true, false, List, length, get_or, drop, cond, refl, ap, sym, ◌∙◌, add-one, append_assoc, drop-cons, Option, Some, None}
 use Rattle.std.specs.List.{position}
 use Rattle.std.specs.Option.{unwrap_or, option_map, is_none}
 use Rattle.std.specs.Str.{bytes_eq}
@@ -8,8 +8,8 @@ use Rattle.std.proofs.Common.{true≢false}
 use Rattle.std.proofs.lemmas.List.{append-nil}
 use Rattle.glk_arena.specs.World.{Package}
 use Rattle.glk_arena.specs.Imports.{Import, is_among, package_fingerprint, fingerprint_in, no_fingerprint, unsafe_package}
-use Rattle.glk_arena.specs.Waves.{Told, first_uses, is_known, is_missing}
-use Rattle.glk_arena.specs.ImportPlaces.{no_package}
+use Rattle.glk_arena.specs.Waves.{first_uses, is_known, is_missing}
+use Rattle.glk_arena.specs.ImportRefs.{no_package}
 use Rattle.glk_arena.proofs.PathLemmas.{find_found, find_none}
 
 -- the fingerprint of a path
@@ -26,9 +26,9 @@ not_or : (a b c : Bool) → (not a && (not b && c)) ≡ (not (a || b) && c)
 not_or true b c = refl
 not_or false b c = refl
 
-pub missing_is : (told : Told) (loaded : List (List ℕ)) (i : Import) (b : Bool) → is_known loaded i.imported ≡ b → is_missing told loaded i ≡ (not b && is_none (told.listed i.imported))
+pub missing_is : (listed : List ℕ → Option (List ℕ)) (loaded : List (List ℕ)) (i : Import) (b : Bool) → is_known loaded i.imported ≡ b → is_missing listed loaded i ≡ (not b && is_none (listed i.imported))
 unfolding is_missing
-missing_is told loaded i b h = not_or (bytes_eq i.imported unsafe_package) (is_among loaded i.imported) (is_none (told.listed i.imported)) ∙ ap (λ c. not c && is_none (told.listed i.imported)) h
+missing_is listed loaded i b h = not_or (bytes_eq i.imported unsafe_package) (is_among loaded i.imported) (is_none (listed i.imported)) ∙ ap (λ c. not c && is_none (listed i.imported)) h
 
 -- the known names with those that a list adds
 abbrev pub grown : List (List ℕ) → List (List ℕ) → List (List ℕ)

@@ -1,14 +1,13 @@
 pub mod Tables
 pub mod ConfigLemmas
 pub mod PackageLemmas
-pub mod Groups
-pub mod HeldLemmas
+pub mod StoredLemmas
 pub mod WorldLemmas
 pub mod TableLemmas
 pub mod OneLoad
 pub mod ReadLemmas
 pub mod PathLemmas
 pub mod FormatLemmas
-pub mod PlaceLemmas
+pub mod ImportRefLemmas
 pub mod ImportLemmas
 pub mod WaveSteps

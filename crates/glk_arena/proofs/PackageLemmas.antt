@@ -8,7 +8,7 @@ use Rattle.std.specs.Cmp.Lexicographic.{bytes_decides}
 use Rattle.std.proofs.lemmas.List.{length-take-le, take_more}
 use Rattle.std.proofs.lemmas.List.Folds.{prefix_len-append}
 use Rattle.std.proofs.lemmas.Bool.Decides.{nat_tests}
-use Rattle.glk_base.specs.Paths.{escaped}
+use Rattle.glk_base.specs.Paths.{escaped_spelling}
 use Rattle.glk_arena.specs.Packages.{place_of_path, place_of_escaped}
 
 or_none : (o : Option ℕ) → o ≡ option_or o None
@@ -52,5 +52,5 @@ pub path_more : (paths : List (List ℕ)) (i : ℕ) (name : List ℕ) (before no
 path_more paths i name before now inside had is = place_more (λ path. bytes_eq name path) paths i before now inside had is
 
 pub escaped_more : (paths : List (List ℕ)) (i : ℕ) (name : List ℕ) (before now : Option ℕ) → i < length paths → before ≡ place_of_escaped (take i paths) name
-    → now ≡ option_or before (cond (bytes_eq name (escaped (get_or paths i []))) (Some i) None) → now ≡ place_of_escaped (take (i + 1) paths) name
-escaped_more paths i name before now inside had is = place_more (λ path. bytes_eq name (escaped path)) paths i before now inside had is
+    → now ≡ option_or before (cond (bytes_eq name (escaped_spelling (get_or paths i []))) (Some i) None) → now ≡ place_of_escaped (take (i + 1) paths) name
+escaped_more paths i name before now inside had is = place_more (λ path. bytes_eq name (escaped_spelling path)) paths i before now inside had is

@@ -5,13 +5,13 @@ use Rattle.std.proofs.lemmas.Bool.{cases_lt}
 use Rattle.std.proofs.lemmas.List.{get_or_read, get_or_append_left, get_or-append_right, get_or-replicate, get_or_push, take_all, length-replicate, length_push}
 use Rattle.std.proofs.lemmas.List.Sums.{sum_by_push}
 use Rattle.std.proofs.lemmas.List.Elements.{All-append, All-cons, All-nil}
-use Rattle.glk_arena.specs.Groups.{group_of, group_start}
-use Rattle.glk_arena.specs.World.{Package, objects_of, package_of_object, package_of_row, first_object, file_bytes, symbol_count, package_symbols, most_packages}
-use Rattle.glk_base.specs.Limits.{most_bytes}
-use Rattle.glk_arena.specs.Held.{IsWhole}
+use Rattle.glk_base.specs.Groups.{group_of, group_start}
+use Rattle.glk_arena.specs.World.{Package, objects_of, package_of_object, package_of_row, first_object, file_bytes, symbol_count, package_symbols, package_limit}
+use Rattle.glk_base.specs.Limits.{file_limit}
+use Rattle.glk_arena.specs.Stored.{IsWhole}
 use Rattle.glk_arena.specs.Tables.{AreTables, object_number}
-use Rattle.glk_arena.proofs.Groups.{group_old, group_new, group_within, group_is, start_more, start_last, start_next, start_all, start_none}
-use Rattle.glk_arena.specs.ImportPlaces.{no_package}
+use Rattle.glk_base.proofs.Groups.{group_old, group_new, group_within, group_is, start_more, start_last, start_next, start_all, start_none}
+use Rattle.glk_arena.specs.ImportRefs.{no_package}
 use Rattle.glk_arena.proofs.WorldLemmas.{objects_total, first_is, owner_is, symbols_are, few_objects, few_symbols}
 
 module _ (world : List Package) (owners firsts rows : List ℕ) (bytes symbols : ℕ) (t : AreTables world owners firsts rows bytes symbols) where
@@ -28,13 +28,13 @@ module _ (world : List Package) (owners firsts rows : List ℕ) (bytes symbols :
   pub table_objects : length owners ≡ length (objects_of world)
   table_objects = t.owned ∙ sym (objects_total world)
 
-  pub table_fits : length owners ≤ most_bytes
+  pub table_fits : length owners ≤ file_limit
   table_fits = omega (arith, t.owned, few_objects world t.whole, t.small)
 
   pub table_symbols : symbols ≡ symbol_count world
   table_symbols = t.all_symbols ∙ sym (symbols_are world)
 
-  pub table_symbols_fit : symbols ≤ most_bytes
+  pub table_symbols_fit : symbols ≤ file_limit
   table_symbols_fit = omega (arith, t.all_symbols, few_symbols world t.whole, t.small)
 
   -- the first package's first row
@@ -62,7 +62,7 @@ module _ (world : List Package) (owners firsts rows : List ℕ) (bytes symbols :
       sym (group_is package_symbols world no_package k r there (omega (arith, low, t.row k there)) (omega (arith, below, next)))
 
   -- one package more
-  pub tables_more : (p : Package) (owners' firsts' rows' : List ℕ) (count bytes' symbols' : ℕ) → IsWhole p → length world < most_packages → file_bytes world + length p.file ≤ most_bytes
+  pub tables_more : (p : Package) (owners' firsts' rows' : List ℕ) (count bytes' symbols' : ℕ) → IsWhole p → length world < package_limit → file_bytes world + length p.file ≤ file_limit
       → count ≡ length owners
       → owners' ≡ take (length owners + object_number p) owners ++ replicate (length owners + object_number p - count) (length world)
       → firsts' ≡ firsts ++ length owners ∷ [] → rows' ≡ rows ++ symbols ∷ []

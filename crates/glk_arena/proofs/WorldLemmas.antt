@@ -1,5 +1,5 @@
 -- Packages in load order: their objects and rows, counted through.
-use Rattle.std.proofs.Common.{◌≡◌, ◌<◌, ◌≤◌, ◌+◌, ◌-◌, ℕ, zero, suc, List, [], ◌∷◌, ◌++◌, length, take, drop, get_or, map, All, refl, sym, ap, subst, ◌∙◌, arith, drop-cons, inl, inr}
+use Rattle.std.proofs.Common.{◌≡◌, ◌<◌, ◌≤◌, ◌+◌, ◌-◌, ℕ, zero, suc, List, [], ◌∷◌, ◌++◌, length, take, drop, get_or, map, All, refl, sym, ap, subst, ◌∙◌, arith, drop-cons, inl, inr, None}
 use Rattle.std.specs.List.{sum_by, flat_map}
 use Rattle.std.proofs.lemmas.Bool.{cases_lt}
 use Rattle.std.proofs.lemmas.List.{map-append, length-map, nil_from_length}
@@ -8,15 +8,15 @@ use Rattle.std.proofs.lemmas.List.Concat.{length-flat_map, flat_map-cons, get_or
 use Rattle.std.proofs.lemmas.List.Elements.{All-nil, All-head, All-tail, All-append, All-map}
 use Rattle.glk_obj.specs.Object.{IsObject}
 use Rattle.glk_obj.specs.Records.{symbols}
-use Rattle.glk_package.specs.Packed.{Packed}
-use Rattle.glk_package.specs.Lines.{alike, same, wanted_after}
-use Rattle.glk_arena.specs.Groups.{group_of, group_start}
-use Rattle.glk_arena.specs.World.{Package, packed_in, objects_of, package_of_object, first_object, object_count, file_bytes, symbol_count, package_symbols}
-use Rattle.glk_arena.specs.Held.{IsWhole}
-use Rattle.glk_arena.specs.ImportPlaces.{no_package, data_of}
+use Rattle.glk_package.specs.ObjectEntry.{ObjectEntry}
+use Rattle.glk_package.specs.HeaderRule.{uniform, exactly, rule_after}
+use Rattle.glk_base.specs.Groups.{group_of, group_start}
+use Rattle.glk_arena.specs.World.{Package, object_entries, objects_of, package_of_object, first_object, object_count, file_bytes, symbol_count, package_symbols}
+use Rattle.glk_arena.specs.Stored.{IsWhole}
+use Rattle.glk_arena.specs.ImportRefs.{no_package, data_of}
 use Rattle.glk_arena.specs.Tables.{object_number}
-use Rattle.glk_arena.proofs.Groups.{group_holds, lt_true, lt_false}
-use Rattle.glk_arena.proofs.HeldLemmas.{package_objects, package_rows}
+use Rattle.glk_base.proofs.Groups.{group_holds, lt_true, lt_false}
+use Rattle.glk_arena.proofs.StoredLemmas.{package_objects, package_rows}
 
 pub objects_are : (world : List Package) → objects_of world ≡ flat_map data_of world
 unfolding objects_of
@@ -111,7 +111,7 @@ symbols_of_none : symbol_count [] ≡ sum_by package_symbols []
 unfolding objects_of
 symbols_of_none = refl
 
-data_symbols : (objects : List Packed) → sum_by symbols (map (λ o. o.goobj) objects) ≡ sum_by (λ o. symbols o.goobj) objects
+data_symbols : (objects : List ObjectEntry) → sum_by symbols (map (λ o. o.goobj) objects) ≡ sum_by (λ o. symbols o.goobj) objects
 data_symbols [] = refl
 data_symbols (o ∷ objects) =
     sum_by-cons symbols o.goobj (map (λ q. q.goobj) objects) ∙ ap (λ n. symbols o.goobj + n) (data_symbols objects) ∙ sym (sum_by-cons (λ q. symbols q.goobj) o objects)
@@ -128,31 +128,31 @@ symbols_are (p ∷ world) =
     ap (λ w. sum_by symbols w) split ∙ sum_by-append symbols (data_of p) (objects_of world)
     ∙ omega (arith, data_symbols p.objects, own_symbols p, symbols_are world, sum_by-cons package_symbols p world)
 
--- an object that stands nowhere
-abbrev pub no_object : Packed
-no_object = record { member = 0; name = []; line = []; goobj = []; at = 0 }
+-- an object that is nowhere
+abbrev pub no_object : ObjectEntry
+no_object = record { member = 0; name = None; line = []; goobj = []; at = 0 }
 
 -- without objects the line is open
-pub no_line_is : (world : List Package) → length (objects_of world) ≡ 0 → wanted_after alike (packed_in world) ≡ alike
+pub no_line_is : (world : List Package) → length (objects_of world) ≡ 0 → rule_after uniform (object_entries world) ≡ uniform
 unfolding objects_of
-no_line_is world e = ap (wanted_after alike) (nil_from_length (packed_in world) (sym (length-map (packed_in world) (λ o. o.goobj)) ∙ e))
+no_line_is world e = ap (rule_after uniform) (nil_from_length (object_entries world) (sym (length-map (object_entries world) (λ o. o.goobj)) ∙ e))
 
 -- else it is that of the first object
 pub record IsFirstLine (world : List Package) (k : ℕ) : Type 0 where
   pub there : k < length world
   pub some : 0 < length (get_or world k no_package).objects
-  pub line_is : wanted_after alike (packed_in world) ≡ same (get_or (get_or world k no_package).objects 0 no_object).line
+  pub line_is : rule_after uniform (object_entries world) ≡ exactly (get_or (get_or world k no_package).objects 0 no_object).line
 
 -- the package of object 0
 package_behind : (path file : List ℕ) (later : List Package) → package_of_object (record { path = path; file = file; objects = [] } ∷ later) 0 ≡ suc (package_of_object later 0)
 unfolding package_of_object
 package_behind path file later = refl
 
-package_here : (path file : List ℕ) (o : Packed) (os : List Packed) (later : List Package) → package_of_object (record { path = path; file = file; objects = o ∷ os } ∷ later) 0 ≡ 0
+package_here : (path file : List ℕ) (o : ObjectEntry) (os : List ObjectEntry) (later : List Package) → package_of_object (record { path = path; file = file; objects = o ∷ os } ∷ later) 0 ≡ 0
 unfolding package_of_object
 package_here path file o os later = rw (lt_true 0 (length (o ∷ os)) (omega arith)) refl
 
-by_objects : (path file : List ℕ) (objects : List Packed) (later : List Package) (k : ℕ) → ((j : ℕ) → j ≡ package_of_object later 0 → 0 < length (objects_of later) → IsFirstLine later j)
+by_objects : (path file : List ℕ) (objects : List ObjectEntry) (later : List Package) (k : ℕ) → ((j : ℕ) → j ≡ package_of_object later 0 → 0 < length (objects_of later) → IsFirstLine later j)
     → k ≡ package_of_object (record { path = path; file = file; objects = objects } ∷ later) 0 → 0 < length (objects_of (record { path = path; file = file; objects = objects } ∷ later))
     → IsFirstLine (record { path = path; file = file; objects = objects } ∷ later) k
 by_objects path file [] later k ih e l =

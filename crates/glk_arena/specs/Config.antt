@@ -2,7 +2,7 @@
 use Rattle.std.specs.Prelude.{◌≡◌, ◌<◌, ◌==◌, ◌⊎◌, ℕ, Bool, List, length, drop, codes, nat_eq, true, Option, None, Some}
 use Rattle.std.specs.List.{starts_with, before_first, after_first}
 use Rattle.std.specs.Str.{is_utf8}
-use Rattle.glk_base.specs.Lines.{is_passed, line_at}
+use Rattle.glk_base.specs.Lines.{is_skipped, line_at}
 
 abbrev pub packagefile : List ℕ
 packagefile = codes "packagefile "
@@ -13,7 +13,7 @@ modinfo = codes "modinfo "
 abbrev pub is_equals_sign : ℕ → Bool
 is_equals_sign b = b == 61
 
--- A line `packagefile PATH=FILE`: the path stands before the first `=`, the file behind it, and neither is empty.
+-- A line `packagefile PATH=FILE`: the path is before the first `=`, the file after it, and neither is empty.
 pub record Lists (line path file : List ℕ) : Type 0 where
   pub text : is_utf8 line ≡ true
   pub word : starts_with nat_eq line packagefile ≡ true
@@ -22,14 +22,14 @@ pub record Lists (line path file : List ℕ) : Type 0 where
   pub some_path : 0 < length path
   pub some_file : 0 < length file
 
--- A line that tells of the program's modules, in any form: it is passed over.
+-- A line of the program's modules, in any form: it is skipped.
 pub record IsModinfo (line : List ℕ) : Type 0 where
   pub text : is_utf8 line ≡ true
   pub word : starts_with nat_eq line modinfo ≡ true
 
 -- A line without the blanks at its ends is good: it is empty or a comment, or one of these two.
 abbrev pub IsGood : List ℕ → Type 0
-IsGood line = (is_passed line ≡ true) ⊎ (IsModinfo line ⊎ ((path : List ℕ) × (file : List ℕ) × Lists line path file))
+IsGood line = (is_skipped line ≡ true) ⊎ (IsModinfo line ⊎ ((path : List ℕ) × (file : List ℕ) × Lists line path file))
 
 abbrev pub IsGoodLine : List (List ℕ) → ℕ → Type 0
 IsGoodLine ls k = IsGood (line_at ls k)

@@ -22,7 +22,7 @@ abbrev pub IsFaultOf : List (List ℕ) → Fault ConfigLine → Type 0
 IsFaultOf ls (fault.Bad bad) = IsFirstBad ls (IsGoodLine ls) bad.line
 IsFaultOf ls fault.OutOfMemory = Unit {0}
 
--- what a line says, as the code tells its cases apart
+-- what a line says, by the cases of the code
 abbrev pub IsLineOf : List ℕ → Line → Type 0
 IsLineOf text line.Passed = IsGood text × ((path file : List ℕ) → Lists text path file → ⊥)
 IsLineOf text (line.Package path file) = Lists text path.now file.now

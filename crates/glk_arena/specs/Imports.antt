@@ -1,4 +1,4 @@
--- What packages import, and the fingerprints by which a package tells for which state of an import it was compiled.
+-- What packages import, and the fingerprints that say for which state of an import a package was compiled.
 use Rattle.std.specs.Prelude.{◌&&◌, not, ℕ, Bool, List, ◌++◌, map, replicate, codes, Option}
 use Rattle.std.specs.List.{find, flat_map, list_any, range_with_len}
 use Rattle.std.specs.Option.{unwrap_or, option_map}
@@ -37,16 +37,16 @@ is_among paths path = list_any (bytes_eq path) paths
 abbrev pub unsafe_package : List ℕ
 unsafe_package = codes "unsafe"
 
--- the fingerprint of a package that tells none
+-- the fingerprint of a package that has none
 abbrev pub no_fingerprint : List ℕ
 no_fingerprint = replicate 8 0
 
-abbrev pub is_told : List ℕ → Bool
-is_told print = not (bytes_eq print no_fingerprint)
+abbrev pub is_set : List ℕ → Bool
+is_set print = not (bytes_eq print no_fingerprint)
 
 -- a package's fingerprint: the first among its objects that is not zero, else zero
 unfoldable pub package_fingerprint : Package → List ℕ
-package_fingerprint p = unwrap_or (find is_told (map (λ o. fingerprint o.goobj) p.objects)) no_fingerprint
+package_fingerprint p = unwrap_or (find is_set (map (λ o. fingerprint o.goobj) p.objects)) no_fingerprint
 
 -- the fingerprint of the first of these packages that has this path; zero where none has
 unfoldable pub fingerprint_in : List Package → List ℕ → List ℕ
@@ -56,15 +56,15 @@ fingerprint_in world path = unwrap_or (option_map package_fingerprint (find (λ 
 unfoldable pub is_unequal : List Package → Import → Bool
 is_unequal world i =
     let found = fingerprint_in world i.imported in
-    is_told i.wanted && (is_told found && not (bytes_eq i.wanted found))
+    is_set i.wanted && (is_set found && not (bytes_eq i.wanted found))
 
--- the import is compared once the package is loaded, and not again: it was compared before where both its packages stand among
+-- the import is compared once the package is loaded, and not again: it was compared before where both its packages are among
 -- the earlier ones
-unfoldable pub is_due : List (List ℕ) → List (List ℕ) → Import → Bool
-is_due earlier loaded i = is_among loaded i.imported && not (is_among earlier i.importer && is_among earlier i.imported)
+unfoldable pub is_compared : List (List ℕ) → List (List ℕ) → Import → Bool
+is_compared earlier loaded i = is_among loaded i.imported && not (is_among earlier i.importer && is_among earlier i.imported)
 
 -- the first import, in load order, that is compared with this wave and is unequal
 unfoldable pub first_unequal : List Package → List Package → Option Import
 first_unequal earlier wave =
     let world = earlier ++ wave in
-    find (λ i. is_due (paths_of earlier) (paths_of world) i && is_unequal world i) (imports_of world)
+    find (λ i. is_compared (paths_of earlier) (paths_of world) i && is_unequal world i) (imports_of world)

@@ -2,13 +2,12 @@ pub mod Config
 pub mod ConfigViews
 pub mod Packages
 pub mod PackageViews
-pub mod Groups
 pub mod World
 pub mod Imports
-pub mod Held
-pub mod ImportPlaces
+pub mod Stored
+pub mod ImportRefs
 pub mod Tables
+pub mod PackageRefusal
 pub mod Waves
 pub mod LoadParts
 pub mod WaveLoop
-pub mod LoadAnswers

@@ -1,113 +1,128 @@
 -- What the parts of loading answer.
-use Rattle.std.specs.Prelude.{◌≡◌, ◌≤◌, ◌<◌, ℕ, List, [], Option, Some, None, Result, Ok, Err, length, get_or, ◌++◌, ◌-◌, ◌&&◌, take}
+use Rattle.std.specs.Prelude.{◌≡◌, ℕ, Bool, map, List, Option, Result, Ok, Err, length, ◌++◌, ◌-◌, ◌&&◌, take, drop}
 use Rattle.std.specs.List.{find}
-use Rattle.std.specs.Option.{option_map}
-use Rattle.glk_base.specs.declared.cause.Cause.{Cause}
-use Rattle.glk_base.specs.declared.cause.Cause.TheVariants as cause
-use Rattle.glk_base.specs.declared.cause.Limit.TheVariants as limit
+use Rattle.std.specs.Option.{option_map, option_or}
+use Rattle.glk_base.specs.Limits.{file_limit}
 use Rattle.glk_base.specs.declared.fault.Fault.{Fault}
-use Rattle.glk_base.specs.declared.fault.Fault.TheVariants as fault
-use Rattle.glk_io.specs.Counts.{Rose}
-use Rattle.glk_io.specs.Contents.{Contents, WhereTold, file_in as held_file}
-use Rattle.glk_package.specs.declared.object.PackageBad.{PackageBad}
-use Rattle.glk_arena.specs.declared.config.Config.{Config}
-use Rattle.glk_arena.specs.ConfigViews.{file_in}
-use Rattle.glk_package.specs.Lines.{Wanted, alike, wanted_after}
+use Rattle.glk_io.specs.Contents.{Contents, IfKnown}
+use Rattle.glk_io.specs.Changes.{FileState}
+use Rattle.glk_cause.specs.declared.cause.Cause.{Cause}
+use Rattle.glk_cause.specs.declared.cause.Cause.TheVariants as cause
+use Rattle.glk_cause.specs.Reading.{AnswersByReading}
+use Rattle.glk_package.specs.declared.refusal.PackageBad.{PackageBad}
+use Rattle.glk_package.specs.HeaderRule.{HeaderRule}
 use Rattle.glk_package.specs.Package.{PackageFile}
-use Rattle.glk_arena.specs.World.{Package, packed_in, file_bytes}
-use Rattle.glk_base.specs.Limits.{most_bytes}
-use Rattle.glk_arena.specs.Imports.{Import, fingerprint_in, is_due, is_unequal}
-use Rattle.glk_arena.specs.Waves.{Told, Reads, Formats, Wave, is_missing, file_of, refusal_of}
+use Rattle.glk_arena.specs.declared.config.Config.{Config}
+use Rattle.glk_arena.specs.declared.stored.StoredObject.{StoredObject}
+use Rattle.glk_arena.specs.ConfigViews.{file_in}
+use Rattle.glk_arena.specs.Stored.{stored_entry}
+use Rattle.glk_arena.specs.PackageRefusal.{refusal_of, IsRefusedFor}
+use Rattle.glk_arena.specs.World.{Package, file_bytes}
+use Rattle.glk_arena.specs.Imports.{Import, imports_of, fingerprint_in, is_compared, is_unequal}
+use Rattle.glk_arena.specs.Waves.{LoadInputs, Reads, FormatsAfter, first_uses, Wave, IsLoad, IsPackagePath, IsOfPackages, is_missing, file_of}
 
--- what a link is told by the path of its main file, a configuration and files
-abbrev pub told_by : List ℕ → Config → Contents → Told
-told_by main config held = record { main = main; listed = file_in config; files = held }
+-- what a load is of, with this main file and configuration
+abbrev pub inputs_of : List ℕ → Config → LoadInputs
+inputs_of main config = record { main = main; listed = file_in config }
 
--- A fault of loading: the read of such a path failed, and the count of failed reads rose; or it is a refusal of which this holds,
--- and the path in it is such a one too; or memory was wanting.
-abbrev pub IsFaultFor : (List ℕ → Type 0) → ℕ → ℕ → (Cause → Type 0) → Fault Cause → Type 0
-IsFaultFor IsPath before now P (fault.Bad (cause.ReadFault path count)) = IsPath path × (count ≡ now) × Rose before now
-IsFaultFor IsPath before now P (fault.Bad (cause.Absent path)) = IsPath path × P (cause.Absent path)
-IsFaultFor IsPath before now P (fault.Bad (cause.FileTooLong path most)) = IsPath path × P (cause.FileTooLong path most)
-IsFaultFor IsPath before now P (fault.Bad (cause.NotGoObject path member)) = IsPath path × P (cause.NotGoObject path member)
-IsFaultFor IsPath before now P (fault.Bad (cause.HeaderLine path member first here)) = IsPath path × P (cause.HeaderLine path member first here)
-IsFaultFor IsPath before now P (fault.Bad (cause.Malformed path member family rule offset)) = IsPath path × P (cause.Malformed path member family rule offset)
-IsFaultFor IsPath before now P (fault.Bad (cause.Fingerprint importer imported wanted found)) = P (cause.Fingerprint importer imported wanted found)
-IsFaultFor IsPath before now P (fault.Bad (cause.MissingPackage importer imported)) = P (cause.MissingPackage importer imported)
-IsFaultFor IsPath before now P (fault.Bad (cause.TooLarge limit.Packages number)) = P (cause.TooLarge limit.Packages number)
-IsFaultFor IsPath before now P fault.OutOfMemory = Unit {0}
--- no other comes
-IsFaultFor IsPath before now P (fault.Bad refusal) = ⊥
+-- a path's file is the main file, or listed
+abbrev pub HasFile : LoadInputs → List ℕ → Type 0
+HasFile inputs path = IsPackagePath inputs.main inputs.listed (file_of inputs path)
 
--- the count of failed reads rises in a read fault alone
-abbrev pub CountsFaults : {A : Type 0} → ℕ → ℕ → Result A (Fault Cause) → Type 0
-CountsFaults before now (Err (fault.Bad (cause.ReadFault path count))) = Unit {0}
-CountsFaults before now answer = now ≡ before
-
--- the fault of a call that takes memory, and is else refused so
-abbrev pub IsRefusedFor : (Cause → Type 0) → Fault Cause → Type 0
-IsRefusedFor P (fault.Bad refusal) = P refusal
-IsRefusedFor P fault.OutOfMemory = Unit {0}
-
--- the same for one refusal that is known
-abbrev pub IsFaultOfFile : List ℕ → PackageBad → Fault Cause → Type 0
-IsFaultOfFile path bad answer = IsRefusedFor (λ refusal. refusal ≡ refusal_of path bad) answer
-
--- a file of at most so many bytes was read: where files are told it is theirs
-pub record IsRead (contents : Option Contents) (path : List ℕ) (left : ℕ) (file : List ℕ) : Type 0 where
-  pub told : WhereTold contents (λ held. held_file held path ≡ Some file)
-  pub short : length file ≤ left
-
--- told files refuse the read of a path so
-abbrev pub IsReadRefusal : Option Contents → List ℕ → ℕ → Cause → Type 0
-IsReadRefusal contents path left (cause.Absent p) = (p ≡ path) × WhereTold contents (λ held. held_file held path ≡ None)
-IsReadRefusal contents path left (cause.FileTooLong p most) =
-    (p ≡ path) × (most ≡ most_bytes) × WhereTold contents (λ held. (file : List ℕ) × (held_file held path ≡ Some file) × (left < length file))
-IsReadRefusal contents path left refusal = ⊥
-
--- told files of these paths are read so
-abbrev pub ReadsTo : List ℕ → Config → Option Contents → ℕ → List (List ℕ) → Result (List (List ℕ)) Cause → Type 0
-ReadsTo main config contents left paths answer = WhereTold contents (λ held. Reads (told_by main config held) left paths answer)
-
--- the path of one of these packages' files
-abbrev pub IsWavePath : List ℕ → Config → List (List ℕ) → List ℕ → Type 0
-IsWavePath main config names path = (i : ℕ) × (i < length names) × ((held : Contents) → path ≡ file_of (told_by main config held) (get_or names i []))
+-- what a call answers that reads the files of paths in order, of which `limit` bytes may be read
+abbrev pub ReadsPaths : {C : Type 0} → FileState → FileState → LoadInputs → ℕ → List (List ℕ) → (C → List (List ℕ)) → Result C (Fault Cause) → Type 0
+ReadsPaths old new inputs limit paths view result =
+    AnswersByReading old new (IsOfPackages inputs) (λ files. Reads inputs files limit paths) view result
 
 -- a file of a package is objects, which make this package
-pub record IsPackageIn (wanted : Wanted) (path file : List ℕ) (p : Package) : Type 0 where
+pub record IsPackageIn (wanted : HeaderRule) (path file : List ℕ) (p : Package) : Type 0 where
   pub holds : PackageFile wanted file (Ok p.objects)
   pub path_is : p.path ≡ path
   pub file_is : p.file ≡ file
 
--- a file is refused so, which lies at this path
-abbrev pub IsFormatRefusal : Wanted → List ℕ → List ℕ → Cause → Type 0
+-- a file at this path is refused so
+abbrev pub IsFormatRefusal : HeaderRule → List ℕ → List ℕ → Cause → Type 0
 IsFormatRefusal wanted file path refusal = (broken : PackageBad) × PackageFile wanted file (Err broken) × (refusal ≡ refusal_of path broken)
 
--- the formats of the files of these paths, whatever files are told
-abbrev pub FormatsTo : List ℕ → Config → Wanted → List (List ℕ) → List (List ℕ) → Result (List Package) Cause → Type 0
-FormatsTo main config wanted paths files answer = (held : Contents) → Formats (told_by main config held) wanted paths files answer
-
--- packages with those of a wave behind them
-pub record AddsWave (main : List ℕ) (config : Config) (earlier : List Package) (paths files : List (List ℕ)) (now : List Package) : Type 0 where
+-- packages with those of a wave after them
+pub record AddsWave (inputs : LoadInputs) (earlier : List Package) (paths files : List (List ℕ)) (now : List Package) : Type 0 where
   pub wave : List Package
   pub now_is : now ≡ earlier ++ wave
-  pub formats : FormatsTo main config (wanted_after alike (packed_in earlier)) paths files (Ok wave)
+  pub formats : FormatsAfter inputs earlier paths files (Ok wave)
 
--- told files make such a wave behind earlier packages
-abbrev pub WaveTo : List ℕ → Config → Option Contents → List Package → List (List ℕ) → Result (List Package) Cause → Type 0
-WaveTo main config contents earlier paths answer = WhereTold contents (λ held. Wave (told_by main config held) earlier paths answer)
+-- known files make such a wave after earlier packages
+abbrev pub WaveTo : LoadInputs → Option Contents → List Package → List (List ℕ) → Result (List Package) Cause → Type 0
+WaveTo inputs contents earlier paths answer = IfKnown contents (λ files. Wave inputs files earlier paths answer)
 
--- the files of a wave were read, and its packages are behind the earlier ones
-pub record ReadsWave (main : List ℕ) (config : Config) (contents : Option Contents) (earlier : List Package) (paths : List (List ℕ)) (now : List Package) : Type 0 where
+-- the files of a wave were read, and its packages are after the earlier ones
+pub record ReadsWave (inputs : LoadInputs) (contents : Option Contents) (earlier : List Package) (paths : List (List ℕ)) (now : List Package) : Type 0 where
   pub files : List (List ℕ)
-  pub reads : ReadsTo main config contents (most_bytes - file_bytes earlier) paths (Ok files)
-  pub adds : AddsWave main config earlier paths files now
+  pub reads : IfKnown contents (λ held. Reads inputs held (file_limit - file_bytes earlier) paths (Ok files))
+  pub adds : AddsWave inputs earlier paths files now
+
+-- why a wave is not loaded after earlier packages
+abbrev pub RefusesWave : FileState → FileState → LoadInputs → List Package → List (List ℕ) → Fault Cause → Type 0
+RefusesWave old new inputs earlier paths stop =
+    let answer : Result (List Package) (Fault Cause) = Err stop in
+    AnswersByReading old new (IsOfPackages inputs) (λ files. Wave inputs files earlier paths) (λ packages. packages) answer
+
+-- what loading answers
+abbrev pub LoadAnswer : FileState → FileState → LoadInputs → Result (List Package) (Fault Cause) → Type 0
+LoadAnswer old new inputs result = AnswersByReading old new (IsOfPackages inputs) (IsLoad inputs) (λ packages. packages) result
+
+-- why nothing is loaded
+abbrev pub RefusesLoad : FileState → FileState → LoadInputs → Fault Cause → Type 0
+RefusesLoad old new inputs stop = LoadAnswer old new inputs (Err stop)
+
+-- the import is compared with the wave after the first `earlier` of these names, and is unequal
+abbrev pub is_refused : List Package → List (List ℕ) → ℕ → Import → Bool
+is_refused world names earlier i = is_compared (take earlier names) names i && is_unequal world i
+
+-- the first import from `from` on that is compared with the wave after the first `earlier` names, and is unequal
+abbrev pub unequal_import : List Package → List (List ℕ) → ℕ → ℕ → Option Import
+unequal_import world names earlier from = find (is_refused world names earlier) (drop from (imports_of world))
+
+-- the first import from `from` on that is neither `unsafe`, nor loaded, nor listed
+abbrev pub missing_import : List Package → (List ℕ → Option (List ℕ)) → List (List ℕ) → ℕ → Option Import
+missing_import world listed names from = find (is_missing listed names) (drop from (imports_of world))
+
+-- what the imports from `from` on ask for further
+abbrev pub next_imports : List (List ℕ) → List Package → ℕ → List (List ℕ)
+next_imports names world from = first_uses names (drop from (map (λ i. i.imported) (imports_of world)))
+
+-- what is stored of the objects of a file, whose lines are as this rule has it
+abbrev pub HoldsStored : HeaderRule → List ℕ → List StoredObject → Type 0
+HoldsStored rule file kept = PackageFile rule file (Ok (map (stored_entry file) kept))
+
+-- the packages of a wave, whose names are those after the earlier packages, are after these
+abbrev pub AppendsWave : LoadInputs → List Package → List (List ℕ) → List (List ℕ) → List Package → Type 0
+AppendsWave inputs earlier names files now = AddsWave inputs earlier (drop (length earlier) names) files now
+
+-- why the formats of the files of a wave are refused
+abbrev pub RefusesFormats : LoadInputs → List Package → List (List ℕ) → List (List ℕ) → Fault Cause → Type 0
+RefusesFormats inputs earlier names files stop =
+    IsRefusedFor (λ refusal. FormatsAfter inputs earlier (drop (length earlier) names) files (Err refusal)) stop
+
+-- the files of a wave were read, and its packages are after the earlier ones
+abbrev pub LoadsFiles : FileState → LoadInputs → List Package → List (List ℕ) → List Package → Type 0
+LoadsFiles state inputs earlier names now = ReadsWave inputs state.contents earlier (drop (length earlier) names) now
+
+-- why they are not
+abbrev pub RefusesFiles : FileState → FileState → LoadInputs → List Package → List (List ℕ) → Fault Cause → Type 0
+RefusesFiles old new inputs earlier names stop = RefusesWave old new inputs earlier (drop (length earlier) names) stop
 
 -- the first import that is compared and differs, as a refusal
 abbrev pub unequal_from : List Package → List (List ℕ) → ℕ → List Import → Option Cause
 unequal_from world names earlier imports =
-    option_map (λ i. cause.Fingerprint i.importer i.imported i.wanted (fingerprint_in world i.imported)) (find (λ i. is_due (take earlier names) names i && is_unequal world i) imports)
+    option_map (λ i. cause.Fingerprint i.importer i.imported i.wanted (fingerprint_in world i.imported))
+    (find (is_refused world names earlier) imports)
 
 -- the first import that is missing, as a refusal
-abbrev pub missing_from : Told → List (List ℕ) → List Import → Option Cause
-missing_from told names imports = option_map (λ i. cause.MissingPackage i.importer i.imported) (find (is_missing told names) imports)
+abbrev pub missing_from : (List ℕ → Option (List ℕ)) → List (List ℕ) → List Import → Option Cause
+missing_from listed names imports = option_map (λ i. cause.MissingPackage i.importer i.imported) (find (is_missing listed names) imports)
+
+-- the refusal of a wave for an import: the first that differs from import `compared` on, or the first that is missing from
+-- import `known` on
+abbrev pub import_refusal_of : List Package → (List ℕ → Option (List ℕ)) → List (List ℕ) → ℕ → ℕ → ℕ → Option Cause
+import_refusal_of world listed names earlier compared known =
+    option_or (unequal_from world names earlier (drop compared (imports_of world))) (missing_from listed names (drop known (imports_of world)))

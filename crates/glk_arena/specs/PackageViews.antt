@@ -7,9 +7,9 @@ use Rattle.glk_arena.specs.declared.packages.Spellings.{Spellings}
 use Rattle.glk_arena.specs.declared.packages.PackageTable.{PackageTable}
 use Rattle.glk_arena.specs.Packages.{place_of_path, place_of_escaped}
 
--- the place of a spelling
+-- the index of a spelling
 abbrev pub place_in : Spellings → List ℕ → Option ℕ
-place_in table name = get_by (λ k. bytes_eq name k.items) table.places
+place_in table name = get_by (λ k. bytes_eq name k.items) table.refs
 
 -- a spelling more, where it is the first of its kind
 pub record Adds (spelling : List ℕ) (place : ℕ) (before now : Spellings) : Type 0 where

@@ -1,10 +1,10 @@
 -- The tables over loaded packages.
 use Rattle.std.specs.Prelude.{◌≡◌, ◌<◌, ◌≤◌, ℕ, List, length, get_or, All}
 use Rattle.std.specs.List.{sum_by}
-use Rattle.glk_arena.specs.Groups.{group_of, group_start}
-use Rattle.glk_arena.specs.World.{Package, package_symbols, file_bytes, most_packages}
-use Rattle.glk_base.specs.Limits.{most_bytes}
-use Rattle.glk_arena.specs.Held.{IsWhole}
+use Rattle.glk_base.specs.Groups.{group_of, group_start}
+use Rattle.glk_arena.specs.World.{Package, package_symbols, file_bytes, package_limit}
+use Rattle.glk_base.specs.Limits.{file_limit}
+use Rattle.glk_arena.specs.Stored.{IsWhole}
 
 abbrev pub object_number : Package → ℕ
 object_number p = length p.objects
@@ -12,8 +12,8 @@ object_number p = length p.objects
 -- the package of each object, the first object and the first row of each package, and the bytes and rows of all
 pub record AreTables (world : List Package) (owners firsts rows : List ℕ) (bytes symbols : ℕ) : Type 0 where
   pub whole : All IsWhole world
-  pub few : length world ≤ most_packages
-  pub small : file_bytes world ≤ most_bytes
+  pub few : length world ≤ package_limit
+  pub small : file_bytes world ≤ file_limit
   pub owned : length owners ≡ sum_by object_number world
   pub begun : length firsts ≡ length world
   pub counted : length rows ≡ length world

@@ -2,33 +2,33 @@
 use Rattle.std.specs.Prelude.{ℕ, List, [], ◌∷◌, ◌-◌, suc, map, take, drop, length, nat_lt, if◌then◌else◌}
 use Rattle.std.specs.List.{flat_map, sum_by}
 use Rattle.glk_obj.specs.Records.{symbols}
-use Rattle.glk_package.specs.Packed.{Packed}
-use Rattle.glk_arena.specs.Groups.{group_of}
+use Rattle.glk_package.specs.ObjectEntry.{ObjectEntry}
+use Rattle.glk_base.specs.Groups.{group_of}
 
 -- a package: its path, the bytes of its file, and the objects in it
 pub record Package : Type 0 where
   pub path : List ℕ
   pub file : List ℕ
-  pub objects : List Packed
+  pub objects : List ObjectEntry
 
 -- the paths of packages
 abbrev pub paths_of : List Package → List (List ℕ)
 paths_of world = map (λ p. p.path) world
 
 -- the objects of all packages, in load order
-abbrev pub packed_in : List Package → List Packed
-packed_in world = flat_map (λ p. p.objects) world
+abbrev pub object_entries : List Package → List ObjectEntry
+object_entries world = flat_map (λ p. p.objects) world
 
 -- the data of these objects
 unfoldable pub objects_of : List Package → List (List ℕ)
-objects_of world = map (λ o. o.goobj) (packed_in world)
+objects_of world = map (λ o. o.goobj) (object_entries world)
 
 -- the number of the package that holds object n
 unfoldable pub package_of_object : List Package → ℕ → ℕ
 package_of_object [] n = 0
 package_of_object (p ∷ later) n = if nat_lt n (length p.objects) then 0 else suc (package_of_object later (n - length p.objects))
 
--- the number of the first object of package p: behind the objects of the packages before
+-- the number of the first object of package p: after the objects of the packages before
 unfoldable pub first_object : List Package → ℕ → ℕ
 first_object world p = length (objects_of (take p world))
 
@@ -52,6 +52,6 @@ package_symbols p = sum_by (λ o. symbols o.goobj) p.objects
 unfoldable pub package_of_row : List Package → ℕ → ℕ
 package_of_row world r = group_of package_symbols world r
 
--- a link has at most so many packages
-abbrev pub most_packages : ℕ
-most_packages = 65536
+-- a link has at most this many packages
+abbrev pub package_limit : ℕ
+package_limit = 65536

@@ -2,18 +2,18 @@
 ghost use Rattle.std.specs.Prelude.{◌≡◌, ℕ, List, length, nat_eq, true, None, Some, IsTrue, IfOk, IfErr, OnOk, MatchOption, ◌↔◌};
 ghost use Rattle.std.specs.List.{starts_with};
 ghost use Rattle.std.specs.Str.{is_utf8};
-ghost use Rattle.glk_base.specs.Lines.{lines, trimmed, AllGood};
+ghost use Rattle.glk_base.specs.Lines.{lines, trimmed_line, AllGood};
 ghost use Rattle.glk_arena.specs.Config.{packagefile, IsGood, IsGoodLine, IsLastFile, Lists};
 ghost use Rattle.glk_arena.specs.ConfigViews.{file_in, IsLineOf, Takes, IsFaultOf};
 
-use glk_base::lines::{cut_line, first_of, is_passed, is_text, trim};
+use glk_base::lines::{cut_line, first_of, is_skipped, is_text, trim};
 use glk_base::{ConfigLine, Fault, OutOfMemory};
 use indexmap::IndexMap;
 use std::alloc::Global;
 
-/// How a line begins that names the file of a package.
+// How a line begins that names the file of a package.
 const PACKAGEFILE: &[u8; 12] = b"packagefile ";
-/// How a line begins that tells the modules of the program.
+// How a line begins that names the modules of the program.
 const MODINFO: &[u8; 8] = b"modinfo ";
 
 /// The files of the packages.
@@ -22,7 +22,7 @@ pub struct Config {
     files: IndexMap<Vec<u8>, String>,
 }
 
-/// What a line says.
+// What a line says.
 #[derive(Clone, Copy)]
 enum Line<'a> {
     Passed,
@@ -30,7 +30,7 @@ enum Line<'a> {
     Bad,
 }
 
-/// What a line says that begins `packagefile `.
+// What a line says that begins `packagefile `.
 fn package(line: &[u8]) -> Line<'_>
     requires text { is_utf8 line.now ≡ true }
     requires word { starts_with nat_eq line.now packagefile ≡ true }
@@ -50,11 +50,11 @@ fn package(line: &[u8]) -> Line<'_>
     }
 }
 
-/// What a line without blanks at its ends says.
+// What a line without blanks at its ends says.
 fn read(line: &[u8]) -> Line<'_>
     ensures { IsLineOf line.now result }
 {
-    if is_passed(line) {
+    if is_skipped(line) {
         return Line::Passed;
     }
     if !is_text(line) {
@@ -81,8 +81,8 @@ impl Config {
 
     /// The files that a text lists, or its first bad line. A line that counts is UTF-8 and has the
     /// form `packagefile PATH=FILE`, cut at the first `=`, where neither is empty, or begins
-    /// `modinfo `, which is passed over; blanks at its ends don't count, and empty lines and lines
-    /// that begin with `#` are passed over. A path that is listed twice has its last file.
+    /// `modinfo `, which is skipped; blanks at its ends don't count, and empty lines and lines
+    /// that begin with `#` are skipped. A path that is listed twice has its last file.
     pub fn parse(alloc: Global, text: &[u8]) -> Result<Config, Fault<ConfigLine>>
         ensures good { OnOk result (AllGood (lines text.now) (IsGoodLine (lines text.now))) }
         ensures files { IfOk result (λ config. (path : List ℕ)
@@ -103,7 +103,7 @@ impl Config {
         Ok(config)
     }
 
-    /// Lists what a line says, which has no blanks at its ends; false where the line is bad.
+    // Lists what a line says, which has no blanks at its ends; false where the line is bad.
     fn take_line(&mut self, alloc: Global, line: &[u8]) -> Result<bool, OutOfMemory>
         ensures good { IfOk result (λ good. IsTrue good ↔ IsGood line.now) }
         ensures files { OnOk result (Takes line.now self.old self.new) }
@@ -118,7 +118,7 @@ impl Config {
         }
     }
 
-    /// The file is the path's from now on, as the line says.
+    // The file is the path's from now on, as the line says.
     fn list(
         &mut self,
         alloc: Global,

@@ -1,54 +1,53 @@
-// What packages import, by the places of the entries in which they say so.
-ghost use Rattle.std.specs.Prelude.{◌≡◌, ◌<◌, ◌≤◌, ◌+◌, ◌++◌, ◌&&◌, ◌∷◌, [], ℕ, List, length, drop, take, map, OnOk};
-ghost use Rattle.std.specs.List.{find, range_with_len};
+// What packages import, by the refs of the entries in which they say so.
+ghost use Rattle.std.specs.Prelude.{◌≡◌, ◌<◌, ◌≤◌, ◌+◌, ◌++◌, ◌∷◌, [], length, take, OnOk};
 ghost use Rattle.std.specs.Option.{option_map};
 ghost use Rattle.glk_arena.specs.World.{paths_of};
-ghost use Rattle.glk_arena.specs.Imports.{imports_of, fingerprint_in, is_due, is_told, is_unequal};
-ghost use Rattle.glk_io.specs.Contents.{Contents};
+ghost use Rattle.glk_arena.specs.Imports.{fingerprint_in, is_compared, is_set, is_unequal};
 ghost use Rattle.glk_arena.specs.Waves.{first_uses, is_missing};
-ghost use Rattle.glk_arena.specs.LoadParts.{told_by};
-ghost use Rattle.glk_arena.specs.ImportPlaces.{ArePlacesOf, IsImportPlace, import_by, import_view, place_at};
+ghost use Rattle.glk_arena.specs.ConfigViews.{file_in};
+ghost use Rattle.glk_arena.specs.LoadParts.{is_refused, unequal_import, missing_import, next_imports};
+ghost use Rattle.glk_arena.specs.ImportRefs.{AreImportsOf, IsImportRef, import_by, import_view, refs_of_object};
 
 use crate::config::Config;
 use crate::list::PackageList;
-use crate::paths::PathList;
+use crate::paths::PackagePaths;
 use glk_base::OutOfMemory;
 use glk_obj::Block;
 use std::alloc::Global;
 
-/// Where an import stands: its package, the object there, and the entry of its block Autolib.
+// Where an import is: its package, the object there, and the entry of its block Autolib.
 #[derive(Clone, Copy)]
-pub(crate) struct ImportPlace {
+pub(crate) struct ImportRef {
     owner: usize,
     object: usize,
     entry: u32,
 }
 
-/// An import: who imports, what, and the fingerprint that it had when the importer was compiled.
+// An import: who imports, what, and the fingerprint that it had when the importer was compiled.
 #[derive(Clone, Copy)]
-pub(crate) struct ImportRef<'a> {
+pub(crate) struct ImportEntry<'a> {
     pub importer: &'a [u8],
     pub imported: &'a [u8],
     pub wanted: [u8; 8],
 }
 
-/// The import at a place.
-pub(crate) fn import_at(list: &PackageList, place: ImportPlace) -> ImportRef<'_>
-    requires { IsImportPlace list.now place }
+// The import of a reference.
+pub(crate) fn import_at(list: &PackageList, place: ImportRef) -> ImportEntry<'_>
+    requires { IsImportRef list.now place }
     ensures { import_view result ≡ import_by list.now place }
 {
     let package = list.package(place.owner);
     let object = package.object(place.object);
     let (imported, wanted) = object.autolib(place.entry);
-    ImportRef {
+    ImportEntry {
         importer: package.path(),
         imported,
         wanted,
     }
 }
 
-/// The fingerprint of the package with this path, of loaded packages with these paths.
-pub(crate) fn fingerprint_of(list: &PackageList, names: &PathList, path: &[u8]) -> [u8; 8]
+// The fingerprint of the package with this path, of loaded packages with these paths.
+pub(crate) fn fingerprint_of(list: &PackageList, names: &PackagePaths, path: &[u8]) -> [u8; 8]
     requires { paths_of list.now ≡ names.now }
     ensures { result ≡ fingerprint_in list.now path.now }
 {
@@ -58,10 +57,10 @@ pub(crate) fn fingerprint_of(list: &PackageList, names: &PathList, path: &[u8]) 
     }
 }
 
-/// Whether an import is compared with the wave behind the first `earlier` paths.
-#[tactic(auto, unfolding(crate::specs::Imports::is_due))]
-fn is_due_now(names: &PathList, earlier: usize, import: ImportRef<'_>) -> bool
-    ensures { result ≡ is_due (take earlier names.now) names.now (import_view import.entry) }
+// Whether an import is compared with the wave after the first `earlier` paths.
+#[tactic(auto, unfolding(crate::specs::Imports::is_compared))]
+fn is_compared_now(names: &PackagePaths, earlier: usize, import: ImportEntry<'_>) -> bool
+    ensures { result ≡ is_compared (take earlier names.now) names.now (import_view import.entry) }
 {
     if !names.has(import.imported) {
         return false;
@@ -72,56 +71,61 @@ fn is_due_now(names: &PathList, earlier: usize, import: ImportRef<'_>) -> bool
     !names.has_before(import.imported, earlier)
 }
 
-/// Whether a fingerprint is not zero.
-fn is_told_print(print: [u8; 8]) -> bool
-    ensures { result ≡ is_told print }
+// Whether a fingerprint is not zero.
+fn is_set(print: [u8; 8]) -> bool
+    ensures { result ≡ is_set print }
 {
     print != [0; 8]
 }
 
-/// Whether an import wants another fingerprint than its package has, and neither is zero.
+// Whether an import wants another fingerprint than its package has, and neither is zero.
 #[tactic(auto, unfolding(crate::specs::Imports::is_unequal))]
-fn differs(list: &PackageList, names: &PathList, import: ImportRef<'_>) -> bool
+fn differs(list: &PackageList, names: &PackagePaths, import: ImportEntry<'_>) -> bool
     requires { paths_of list.now ≡ names.now }
     ensures { result ≡ is_unequal list.now (import_view import.entry) }
 {
     let found = fingerprint_of(list, names, import.imported);
-    if !is_told_print(import.wanted) {
+    if !is_set(import.wanted) {
         return false;
     }
-    if !is_told_print(found) {
+    if !is_set(found) {
         return false;
     }
     import.wanted != found
 }
 
-/// Whether an import is compared with the wave behind the first `earlier` paths, and differs.
-fn is_refused(list: &PackageList, names: &PathList, earlier: usize, import: ImportRef<'_>) -> bool
+// Whether an import is compared with the wave after the first `earlier` paths, and differs.
+fn is_refused(
+    list: &PackageList,
+    names: &PackagePaths,
+    earlier: usize,
+    import: ImportEntry<'_>,
+) -> bool
     requires { paths_of list.now ≡ names.now }
-    ensures { result ≡ (is_due (take earlier names.now) names.now (import_view import.entry) && is_unequal list.now (import_view import.entry)) }
+    ensures { result ≡ is_refused list.now names.now earlier (import_view import.entry) }
 {
-    if !is_due_now(names, earlier, import) {
+    if !is_compared_now(names, earlier, import) {
         return false;
     }
     differs(list, names, import)
 }
 
-/// The first of the imports from place `from` on that is compared with the wave behind the first
-/// `earlier` paths, and differs.
+// The first of the imports from `from` on that is compared with the wave after the first
+// `earlier` paths, and differs.
 pub(crate) fn first_unequal<'a>(
     list: &'a PackageList,
-    names: &PathList,
-    places: &[ImportPlace],
+    names: &PackagePaths,
+    refs: &[ImportRef],
     from: usize,
     earlier: usize,
-) -> Option<ImportRef<'a>>
+) -> Option<ImportEntry<'a>>
     requires paths { paths_of list.now ≡ names.now }
-    requires places { ArePlacesOf list.now list.now places.now }
-    requires from { from ≤ length places.now }
-    ensures { option_map import_view result ≡ find (λ i. is_due (take earlier names.now) names.now i && is_unequal list.now i) (drop from (imports_of list.now)) }
+    requires refs { AreImportsOf list.now list.now refs.now }
+    requires from { from ≤ length refs.now }
+    ensures { option_map import_view result ≡ unequal_import list.now names.now earlier from }
 {
-    for k in from..places.len() {
-        let import = import_at(list, places[k]);
+    for k in from..refs.len() {
+        let import = import_at(list, refs[k]);
         if is_refused(list, names, earlier, import) {
             return Some(import);
         }
@@ -129,9 +133,9 @@ pub(crate) fn first_unequal<'a>(
     None
 }
 
-/// Whether an import is neither `unsafe`, nor loaded, nor listed.
-fn is_nowhere(names: &PathList, config: &Config, import: ImportRef<'_>) -> bool
-    ensures { (main : List ℕ) (held : Contents) → result ≡ is_missing (told_by main config.now held) names.now (import_view import.entry) }
+// Whether an import is neither `unsafe`, nor loaded, nor listed.
+fn is_unresolved(names: &PackagePaths, config: &Config, import: ImportEntry<'_>) -> bool
+    ensures { result ≡ is_missing (file_in config.now) names.now (import_view import.entry) }
 {
     if names.knows(import.imported) {
         return false;
@@ -142,29 +146,29 @@ fn is_nowhere(names: &PathList, config: &Config, import: ImportRef<'_>) -> bool
     }
 }
 
-/// The first of the imports from place `from` on that is neither `unsafe`, nor loaded, nor listed.
+// The first of the imports from `from` on that is neither `unsafe`, nor loaded, nor listed.
 pub(crate) fn first_missing<'a>(
     list: &'a PackageList,
-    names: &PathList,
+    names: &PackagePaths,
     config: &Config,
-    places: &[ImportPlace],
+    refs: &[ImportRef],
     from: usize,
-) -> Option<ImportRef<'a>>
-    requires places { ArePlacesOf list.now list.now places.now }
-    requires from { from ≤ length places.now }
-    ensures { (main : List ℕ) (held : Contents) → option_map import_view result ≡ find (is_missing (told_by main config.now held) names.now) (drop from (imports_of list.now)) }
+) -> Option<ImportEntry<'a>>
+    requires refs { AreImportsOf list.now list.now refs.now }
+    requires from { from ≤ length refs.now }
+    ensures { option_map import_view result ≡ missing_import list.now (file_in config.now) names.now from }
 {
-    for k in from..places.len() {
-        let import = import_at(list, places[k]);
-        if is_nowhere(names, config, import) {
+    for k in from..refs.len() {
+        let import = import_at(list, refs[k]);
+        if is_unresolved(names, config, import) {
             return Some(import);
         }
     }
     None
 }
 
-/// Lists a path, unless it asks for no further package.
-fn list_path(alloc: Global, names: &mut PathList, path: &[u8]) -> Result<(), OutOfMemory>
+// Lists a path, unless it asks for no further package.
+fn queue_path(alloc: Global, names: &mut PackagePaths, path: &[u8]) -> Result<(), OutOfMemory>
     ensures { OnOk result (names.new ≡ names.old ++ first_uses names.old (path.now ∷ [])) }
 {
     if names.knows(path) {
@@ -174,36 +178,36 @@ fn list_path(alloc: Global, names: &mut PathList, path: &[u8]) -> Result<(), Out
     Ok(())
 }
 
-/// Lists what the imports from place `from` on ask for further.
-pub(crate) fn list_imports(
+// Lists what the imports from `from` on ask for further.
+pub(crate) fn queue_imports(
     alloc: Global,
     list: &PackageList,
-    names: &mut PathList,
-    places: &[ImportPlace],
+    names: &mut PackagePaths,
+    refs: &[ImportRef],
     from: usize,
 ) -> Result<(), OutOfMemory>
-    requires places { ArePlacesOf list.now list.now places.now }
-    requires from { from ≤ length places.now }
-    ensures { OnOk result (names.new ≡ names.old ++ first_uses names.old (drop from (map (λ i. i.imported) (imports_of list.now)))) }
+    requires refs { AreImportsOf list.now list.now refs.now }
+    requires from { from ≤ length refs.now }
+    ensures { OnOk result (names.new ≡ names.old ++ next_imports names.old list.now from) }
 {
-    for k in from..places.len() {
-        let import = import_at(list, places[k]);
-        list_path(alloc, names, import.imported)?;
+    for k in from..refs.len() {
+        let import = import_at(list, refs[k]);
+        queue_path(alloc, names, import.imported)?;
     }
     Ok(())
 }
 
-/// Adds the places of the imports of an object.
+// Adds the refs of the imports of an object.
 fn add_object(
-    places: &mut Vec<ImportPlace>,
+    refs: &mut Vec<ImportRef>,
     owner: usize,
     object: usize,
     entries: u32,
 ) -> Result<(), OutOfMemory>
-    ensures { OnOk result (places.new.items ≡ places.old.items ++ map (place_at owner object) (range_with_len 0 entries)) }
+    ensures { OnOk result (refs.new.items ≡ refs.old.items ++ refs_of_object owner object entries) }
 {
     for entry in 0..entries {
-        places.push(ImportPlace {
+        refs.push(ImportRef {
             owner,
             object,
             entry,
@@ -212,36 +216,32 @@ fn add_object(
     Ok(())
 }
 
-/// Adds the places of the imports of package `p`.
-fn add_package(
-    list: &PackageList,
-    places: &mut Vec<ImportPlace>,
-    p: usize,
-) -> Result<(), OutOfMemory>
+// Adds the refs of the imports of package `p`.
+fn add_package(list: &PackageList, refs: &mut Vec<ImportRef>, p: usize) -> Result<(), OutOfMemory>
     requires package { p < length list.now }
-    requires places { ArePlacesOf list.now (take p list.now) places.old.items }
-    ensures { OnOk result (ArePlacesOf list.now (take (p + 1) list.now) places.new.items) }
+    requires refs { AreImportsOf list.now (take p list.now) refs.old.items }
+    ensures { OnOk result (AreImportsOf list.now (take (p + 1) list.now) refs.new.items) }
 {
     let package = list.package(p);
     for object in 0..package.objects() {
         let entries = package.object(object).count(Block::Autolib);
-        add_object(places, p, object, entries)?;
+        add_object(refs, p, object, entries)?;
     }
     Ok(())
 }
 
-/// Adds the places of the imports of the packages from `from` on.
+// Adds the refs of the imports of the packages from `from` on.
 pub(crate) fn add_imports(
     list: &PackageList,
-    places: &mut Vec<ImportPlace>,
+    refs: &mut Vec<ImportRef>,
     from: usize,
 ) -> Result<(), OutOfMemory>
     requires from { from ≤ length list.now }
-    requires places { ArePlacesOf list.now (take from list.now) places.old.items }
-    ensures { OnOk result (ArePlacesOf list.now list.now places.new.items) }
+    requires refs { AreImportsOf list.now (take from list.now) refs.old.items }
+    ensures { OnOk result (AreImportsOf list.now list.now refs.new.items) }
 {
     for p in from..list.packages() as usize {
-        add_package(list, places, p)?;
+        add_package(list, refs, p)?;
     }
     Ok(())
 }

@@ -8,7 +8,7 @@ pub fn one_file()
     ensures { IsOneFile }
 {}
 
-/// What a link is told loads to one list of packages, or has one first refusal, and not both.
+/// Known files load to one list of packages, or have one first refusal, and not both.
 pub fn one_load()
     ensures { IsOneLoad }
 {}

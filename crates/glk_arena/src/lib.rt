@@ -2,15 +2,16 @@
 #![tactic(auto)]
 
 mod config;
-mod formats;
-mod held;
 mod imports;
 mod laws;
 mod list;
 mod loaded;
 mod packages;
+mod parse_packages;
 mod paths;
-mod reading;
+mod read_files;
+mod refusal;
+mod stored;
 #[cfg(test)]
 mod tests;
 mod waves;
@@ -19,4 +20,5 @@ pub use config::Config;
 pub use laws::{one_file, one_load};
 pub use loaded::Loaded;
 pub use packages::PackageTable;
+pub use refusal::package_refusal;
 pub use waves::load_waves;

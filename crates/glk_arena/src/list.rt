@@ -1,19 +1,19 @@
 // The loaded packages in load order, with tables over them.
 ghost use Rattle.std.specs.Prelude.{◌≡◌, ◌+◌, ◌<◌, ◌≤◌, ◌++◌, ◌∷◌, ℕ, List, [], length, get_or, All, IfOk};
 ghost use Rattle.glk_obj.specs.Object.{IsObject};
-ghost use Rattle.glk_package.specs.Lines.{alike, wanted_after, wanted_view};
-ghost use Rattle.glk_arena.specs.World.{Package, packed_in, objects_of, package_of_object, first_object, object_count, file_bytes, symbol_count, most_packages, package_of_row};
-ghost use Rattle.glk_base.specs.Limits.{most_bytes};
-ghost use Rattle.glk_arena.specs.Held.{IsWhole};
+ghost use Rattle.glk_package.specs.HeaderRule.{uniform, rule_after, rule_view};
+ghost use Rattle.glk_arena.specs.World.{Package, object_entries, objects_of, package_of_object, first_object, object_count, file_bytes, symbol_count, package_limit, package_of_row};
+ghost use Rattle.glk_base.specs.Limits.{file_limit};
+ghost use Rattle.glk_arena.specs.Stored.{IsWhole};
 
-use crate::held::LoadedPackage;
+use crate::stored::LoadedPackage;
 use glk_base::OutOfMemory;
 use glk_obj::ObjView;
-use glk_package::LineRule;
+use glk_package::HeaderRule;
 use std::alloc::Global;
 use std::marker::Model;
 
-/// Packages in load order. Contracts see them as a list.
+// Packages in load order. Contracts see them as a list.
 #[derive(Drop)]
 pub(crate) struct PackageList {
     packages: Vec<LoadedPackage>,
@@ -53,16 +53,16 @@ impl PackageList {
         }
     }
 
-    /// How many packages there are.
+    // How many packages there are.
     pub(crate) fn packages(&self) -> u32
         ensures value { result ≡ length self.now }
-        ensures few { length self.now ≤ most_packages }
+        ensures few { length self.now ≤ package_limit }
         ensures objects { All IsObject (objects_of self.now) }
     {
         self.packages.len() as u32
     }
 
-    /// Package `p`.
+    // Package `p`.
     pub(crate) fn package(&self, p: usize) -> &LoadedPackage
         requires { p < length self.now }
         ensures { (d : Package) → result.now ≡ get_or self.now p d }
@@ -70,43 +70,43 @@ impl PackageList {
         &self.packages[p]
     }
 
-    /// The rule for the lines of further objects: that of the first one, where there is one.
-    pub(crate) fn rule(&self) -> LineRule<'_>
-        ensures { wanted_view result ≡ wanted_after alike (packed_in self.now) }
+    // The rule for the lines of further objects: that of the first one, where there is one.
+    pub(crate) fn rule(&self) -> HeaderRule<'_>
+        ensures { rule_view result ≡ rule_after uniform (object_entries self.now) }
     {
         if self.objects() == 0 {
-            return LineRule::Alike;
+            return HeaderRule::Uniform;
         }
-        LineRule::Same(
+        HeaderRule::Exactly(
             self.package(self.package_of_object(0) as usize)
                 .first_line(),
         )
     }
 
-    /// How many objects they have.
+    // How many objects they have.
     pub(crate) fn objects(&self) -> u32
         ensures { result ≡ length (objects_of self.now) }
     {
         self.owners.len() as u32
     }
 
-    /// How many bytes their files have.
+    // How many bytes their files have.
     pub(crate) fn bytes(&self) -> u64
         ensures value { result ≡ file_bytes self.now }
-        ensures few { file_bytes self.now ≤ most_bytes }
+        ensures few { file_bytes self.now ≤ file_limit }
         ensures whole { All IsWhole self.now }
     {
         self.bytes
     }
 
-    /// How many symbols their objects have.
+    // How many symbols their objects have.
     pub(crate) fn symbols(&self) -> u64
         ensures { result ≡ symbol_count self.now }
     {
         self.symbols
     }
 
-    /// The number of the package that holds object `n`.
+    // The number of the package that holds object `n`.
     pub(crate) fn package_of_object(&self, n: u32) -> u32
         requires { n < length (objects_of self.now) }
         ensures value { result ≡ package_of_object self.now n }
@@ -115,7 +115,7 @@ impl PackageList {
         self.owners[n as usize]
     }
 
-    /// The number of the first object of package `p`.
+    // The number of the first object of package `p`.
     pub(crate) fn first_object(&self, p: u32) -> u32
         requires { p < length self.now }
         ensures { result ≡ first_object self.now p }
@@ -123,7 +123,7 @@ impl PackageList {
         self.firsts[p as usize]
     }
 
-    /// How many objects package `p` has.
+    // How many objects package `p` has.
     pub(crate) fn object_count(&self, p: u32) -> u32
         requires { p < length self.now }
         ensures { result ≡ object_count self.now p }
@@ -131,7 +131,7 @@ impl PackageList {
         self.packages[p as usize].objects() as u32
     }
 
-    /// Object `n`, without another check.
+    // Object `n`, without another check.
     pub(crate) fn object(&self, n: u32) -> ObjView<'_>
         requires { n < length (objects_of self.now) }
         ensures object { IsObject (get_or (objects_of self.now) n []) }
@@ -142,7 +142,7 @@ impl PackageList {
         self.package(p as usize).object((n - first) as usize)
     }
 
-    /// The number of the package that holds row `r`: the last whose first row is not behind it.
+    // The number of the package that holds row `r`: the last whose first row is not after it.
     pub(crate) fn package_of_row(&self, r: u32) -> u32
         requires { r < symbol_count self.now }
         ensures value { result ≡ package_of_row self.now r }
@@ -151,11 +151,11 @@ impl PackageList {
         last_below(&self.rows, r) as u32
     }
 
-    /// These packages and one behind them.
+    // These packages and one after them.
     pub(crate) fn push(self, last: LoadedPackage) -> Result<PackageList, OutOfMemory>
         requires whole { IsWhole last }
-        requires few { length self < most_packages }
-        requires small { file_bytes self + length last.file ≤ most_bytes }
+        requires few { length self < package_limit }
+        requires small { file_bytes self + length last.file ≤ file_limit }
         ensures { IfOk result (λ list. list ≡ self ++ last ∷ []) }
     {
         let PackageList {
@@ -184,7 +184,7 @@ impl PackageList {
     }
 }
 
-/// The last place whose number is not above `r`, in numbers that rise from one that is not above it.
+// The last index whose number is not above `r`, in numbers that rise from one that is not above it.
 fn last_below(rows: &[u32], r: u32) -> usize
     requires { (0 < length rows.now) × (get_or rows.now 0 0 ≤ r) }
     ensures inside { result < length rows.now }

@@ -1,10 +1,10 @@
 // The loaded packages of a link.
 ghost use Rattle.std.specs.Prelude.{◌≡◌, ◌<◌, ◌≤◌, [], length, get_or, All};
 ghost use Rattle.glk_obj.specs.Object.{IsObject};
-ghost use Rattle.glk_arena.specs.Packages.{meant};
-ghost use Rattle.glk_arena.specs.World.{paths_of, objects_of, package_of_object, package_of_row, first_object, object_count, file_bytes, symbol_count, most_packages};
-ghost use Rattle.glk_base.specs.Limits.{most_bytes};
-ghost use Rattle.glk_arena.specs.Held.{IsWhole};
+ghost use Rattle.glk_arena.specs.Packages.{find_package};
+ghost use Rattle.glk_arena.specs.World.{paths_of, objects_of, package_of_object, package_of_row, first_object, object_count, file_bytes, symbol_count, package_limit};
+ghost use Rattle.glk_base.specs.Limits.{file_limit};
+ghost use Rattle.glk_arena.specs.Stored.{IsWhole};
 ghost use Rattle.glk_arena.specs.PackageViews.{IsTableOf};
 
 use crate::list::PackageList;
@@ -43,7 +43,7 @@ impl Loaded {
     /// How many packages there are.
     pub fn packages(&self) -> u32
         ensures value { result ≡ length self.now }
-        ensures few { length self.now ≤ most_packages }
+        ensures few { length self.now ≤ package_limit }
     {
         self.packages.packages()
     }
@@ -81,7 +81,7 @@ impl Loaded {
         self.packages.package_of_object(n)
     }
 
-    /// The number of the first object of package `p`, or of the next one behind it, where it has none.
+    /// The number of the first object of package `p`, or of the next one after it, where it has none.
     pub fn first_object(&self, p: u32) -> u32
         requires { p < length self.now }
         ensures { result ≡ first_object self.now p }
@@ -101,7 +101,7 @@ impl Loaded {
     /// file.
     pub fn bytes(&self) -> u64
         ensures value { result ≡ file_bytes self.now }
-        ensures few { file_bytes self.now ≤ most_bytes }
+        ensures few { file_bytes self.now ≤ file_limit }
         ensures whole { All IsWhole self.now }
     {
         self.packages.bytes()
@@ -115,8 +115,8 @@ impl Loaded {
     }
 
     /// The number of the package that a stored path means. It takes no memory.
-    pub fn meant(&self, name: &[u8]) -> Option<u32>
-        ensures { result ≡ meant (paths_of self.now) name.now }
+    pub fn find_package(&self, name: &[u8]) -> Option<u32>
+        ensures { result ≡ find_package (paths_of self.now) name.now }
     {
         self.table.package_of(name)
     }

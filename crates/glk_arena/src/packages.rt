@@ -1,16 +1,16 @@
 // Which loaded package a path means that an object stores.
 ghost use Rattle.std.specs.Prelude.{◌≡◌, ◌<◌, ◌^◌, ℕ, List, length, IfOk, OnOk, None};
-ghost use Rattle.glk_arena.specs.Packages.{meant};
+ghost use Rattle.glk_arena.specs.Packages.{find_package};
 ghost use Rattle.glk_arena.specs.PackageViews.{place_in, Adds, IsTableOf};
 
 use glk_base::{OutOfMemory, Text, escaped_path};
 use indexmap::IndexMap;
 use std::alloc::Global;
 
-/// The places of packages by a spelling of their paths: of those that share one the first.
+// The refs of packages by a spelling of their paths: of those that share one the first.
 #[derive(Drop)]
 struct Spellings {
-    places: IndexMap<Vec<u8>, u32>,
+    refs: IndexMap<Vec<u8>, u32>,
 }
 
 impl Spellings {
@@ -18,18 +18,18 @@ impl Spellings {
         ensures { (name : List ℕ) → place_in result name ≡ None }
     {
         Spellings {
-            places: IndexMap::new(alloc),
+            refs: IndexMap::new(alloc),
         }
     }
 
-    /// The place of a spelling.
+    // The index of a spelling.
     fn find(&self, spelling: &[u8]) -> Option<u32>
         ensures { result ≡ place_in self.now spelling.now }
     {
-        self.places.get(spelling).copied()
+        self.refs.get(spelling).copied()
     }
 
-    /// Gives a spelling a place, where it has none.
+    // Gives a spelling an index, where it has none.
     fn add(&mut self, alloc: Global, spelling: &[u8], place: u32) -> Result<(), OutOfMemory>
         ensures { OnOk result (Adds spelling.now place self.old self.new) }
     {
@@ -44,7 +44,7 @@ impl Spellings {
         ensures { OnOk result (Adds spelling.now place self.old self.new) }
     {
         let key = spelling.to_vec(alloc)?;
-        self.places.insert(key, place)?;
+        self.refs.insert(key, place)?;
         Ok(())
     }
 }
@@ -72,10 +72,11 @@ impl PackageTable {
         Ok(PackageTable { plain, escaped })
     }
 
-    /// The place of the package that a stored path means: of the first one that has this path, else
+    /// The index of the package that a stored path means: of the first one that has this path, else
     /// of the first one whose escaped spelling it is. It takes no memory.
     pub fn package_of(&self, name: &[u8]) -> Option<u32>
-        ensures { (paths : List (List ℕ)) → IsTableOf paths self.now → result ≡ meant paths name.now }
+        ensures { (paths : List (List ℕ)) → IsTableOf paths self.now
+            → result ≡ find_package paths name.now }
     {
         match self.plain.find(name) {
             Some(place) => Some(place),

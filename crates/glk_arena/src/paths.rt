@@ -10,16 +10,16 @@ use indexmap::IndexSet;
 use std::alloc::Global;
 use std::marker::Model;
 
-/// The path of the package that the compiler itself has.
+// The path of the package that the compiler itself has.
 const UNSAFE: &[u8] = b"unsafe";
 
-/// Paths in load order, each once. Contracts see them as a list.
+// Paths in load order, each once. Contracts see them as a list.
 #[derive(Drop)]
-pub(crate) struct PathList {
+pub(crate) struct PackagePaths {
     paths: IndexSet<Vec<u8>>,
 }
 
-impl Model for PathList {
+impl Model for PackagePaths {
     ghost use Rattle.std.specs.Prelude.{List, ℕ, map};
 
     ghost Value = { List (List ℕ) };
@@ -27,11 +27,11 @@ impl Model for PathList {
     ghost view = { λ l. map (λ p. p.items) l.paths.keys };
 }
 
-impl PathList {
-    pub(crate) fn new(alloc: Global) -> PathList
+impl PackagePaths {
+    pub(crate) fn new(alloc: Global) -> PackagePaths
         ensures { result ≡ [] }
     {
-        PathList {
+        PackagePaths {
             paths: IndexSet::new(alloc),
         }
     }
@@ -42,7 +42,7 @@ impl PathList {
         self.paths.len()
     }
 
-    /// Path `i`.
+    // Path `i`.
     pub(crate) fn get(&self, i: usize) -> &[u8]
         requires { i < length self.now }
         ensures { result.now ≡ get_or self.now i [] }
@@ -53,21 +53,21 @@ impl PathList {
         }
     }
 
-    /// The place of a path.
+    // The index of a path.
     pub(crate) fn position(&self, path: &[u8]) -> Option<usize>
         ensures { result ≡ position (bytes_eq path.now) self.now }
     {
         self.paths.get_index_of(path)
     }
 
-    /// Whether a path is among them.
+    // Whether a path is among them.
     pub(crate) fn has(&self, path: &[u8]) -> bool
         ensures { result ≡ is_among self.now path.now }
     {
         self.paths.contains(path)
     }
 
-    /// Whether a path is among the first `end` of them.
+    // Whether a path is among the first `end` of them.
     pub(crate) fn has_before(&self, path: &[u8], end: usize) -> bool
         ensures { result ≡ is_among (take end self.now) path.now }
     {
@@ -77,14 +77,14 @@ impl PathList {
         }
     }
 
-    /// Whether a path asks for no further package: it is `unsafe`, or among them.
+    // Whether a path asks for no further package: it is `unsafe`, or among them.
     pub(crate) fn knows(&self, path: &[u8]) -> bool
         ensures { result ≡ is_known self.now path.now }
     {
         path == UNSAFE || self.has(path)
     }
 
-    /// The path goes last.
+    // The path goes last.
     pub(crate) fn push(&mut self, alloc: Global, path: &[u8]) -> Result<(), OutOfMemory>
         requires { is_among self.old path.now ≡ false }
         ensures { OnOk result (self.new ≡ self.old ++ path.now ∷ []) }

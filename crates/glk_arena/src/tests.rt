@@ -2,12 +2,12 @@
 mod loading;
 mod objects;
 
-use super::{Config, PackageTable};
+use crate::{Config, PackageTable};
 use glk_base::{ConfigLine, Fault, Text};
 use std::alloc::Global;
 use std::test::Fail;
 
-/// A configuration as `go build` writes it, with a line of each kind.
+// A configuration as `go build` writes it, with a line of each kind.
 const LISTED: &[u8] = b"# import config\n\
 packagefile fmt=/cache/fmt.a\n\
 \t packagefile gopkg.in/yaml.v3=/cache/a b=c.a \r\n\
@@ -15,12 +15,12 @@ packagefile fmt=/cache/fmt.a\n\
 modinfo \"path\\tm\\n\"\n\
 packagefile fmt=/cache/later.a";
 
-/// The number of the first bad line, or none where all lines are good.
+// The number of the first bad line, or none where all lines are good.
 fn bad_line(alloc: Global, text: &[u8]) -> Result<Option<u32>, Fail> {
     match Config::parse(alloc, text) {
         Ok(_) => Ok(None),
         Err(Fault::Bad(ConfigLine { line })) => Ok(Some(line)),
-        Err(Fault::OutOfMemory) => Err(Fail::from("want of memory")),
+        Err(Fault::OutOfMemory) => Err(Fail::from("out of memory")),
     }
 }
 
@@ -31,14 +31,6 @@ fn a_path_has_its_last_file(rt: HostRuntime) -> Result<(), Fail> {
     assert_eq!(rt; config.file_of(b"gopkg.in/yaml.v3"), Some("/cache/a b=c.a"));
     assert_eq!(rt; config.file_of(b"os"), None);
     assert_eq!(rt; config.file_of(b""), None);
-    Ok(())
-}
-
-#[test]
-fn spaces_beside_the_equals_sign_belong_to_both(rt: HostRuntime) -> Result<(), Fail> {
-    let config = Config::parse(rt.alloc(), b"packagefile  a = b \n")?;
-    assert_eq!(rt; config.file_of(b" a "), Some(" b"));
-    assert_eq!(rt; config.file_of(b"a"), None);
     Ok(())
 }
 
@@ -71,7 +63,7 @@ fn each_other_line_is_bad(rt: HostRuntime) -> Result<(), Fail> {
     Ok(())
 }
 
-/// The table of four packages.
+// The table of four packages.
 fn table(alloc: Global) -> Result<PackageTable, Fail> {
     let paths = [
         Text::new(alloc, b"main")?,

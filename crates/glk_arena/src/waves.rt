@@ -1,43 +1,42 @@
 // Loading packages by waves.
-ghost use Rattle.std.specs.Prelude.{◌≡◌, ◌≤◌, ◌<◌, ℕ, List, Option, length, drop, All, Err, IfOk, IfErr};
-ghost use Rattle.std.specs.Option.{option_or};
-ghost use Rattle.glk_io.specs.Contents.{Contents, Stays};
+ghost use Rattle.std.specs.Prelude.{◌≡◌, ◌≤◌, ◌<◌, ℕ, List, Option, length, drop, All, Err, IfOk, IfErr, OnOk};
+ghost use Rattle.glk_io.specs.Changes.{FilesUnchanged};
 ghost use Rattle.glk_obj.specs.Object.{IsObject};
 ghost use Rattle.glk_arena.specs.ConfigViews.{file_in};
-ghost use Rattle.glk_arena.specs.World.{objects_of, paths_of, file_bytes, most_packages};
-ghost use Rattle.glk_base.specs.Limits.{most_bytes};
+ghost use Rattle.glk_arena.specs.World.{objects_of, paths_of, file_bytes, package_limit};
+ghost use Rattle.glk_base.specs.Limits.{file_limit};
 ghost use Rattle.glk_arena.specs.Imports.{imports_of};
-ghost use Rattle.glk_arena.specs.ImportPlaces.{ArePlacesOf};
+ghost use Rattle.glk_arena.specs.ImportRefs.{AreImportsOf};
 ghost use Rattle.glk_arena.specs.Waves.{first_wave};
-ghost use Rattle.glk_arena.specs.LoadParts.{told_by, CountsFaults, IsFaultFor, IsWavePath, ReadsWave, WaveTo, unequal_from, missing_from};
+ghost use Rattle.glk_arena.specs.LoadParts.{inputs_of, HasFile, LoadsFiles, RefusesFiles, RefusesLoad, LoadAnswer, import_refusal_of};
 ghost use Rattle.glk_arena.specs.WaveLoop.{IsLoading, IsWaveOf};
-ghost use Rattle.glk_arena.specs.LoadAnswers.{MeansLoad, CountsReads};
 
 use crate::config::Config;
-use crate::formats::add_wave;
 use crate::imports::{
-    ImportPlace, add_imports, fingerprint_of, first_missing, first_unequal, list_imports,
+    ImportRef, add_imports, fingerprint_of, first_missing, first_unequal, queue_imports,
 };
 use crate::list::PackageList;
 use crate::loaded::Loaded;
 use crate::packages::PackageTable;
-use crate::paths::PathList;
-use crate::reading::{MAIN, MOST_BYTES, read_wave};
-use glk_base::{Cause, Fault, Limit, OutOfMemory, Text};
+use crate::parse_packages::append_wave;
+use crate::paths::PackagePaths;
+use crate::read_files::{MAIN, read_wave};
+use glk_base::{FILE_LIMIT, Fault, OutOfMemory, Text};
+use glk_cause::{Cause, Limit};
 use glk_io::Files;
 use std::alloc::Global;
 
-/// The path of the package that is loaded where it is listed, whoever imports it.
+// The path of the package that is loaded where it is listed, whoever imports it.
 const RUNTIME: &[u8] = b"runtime";
 
-/// How many packages a link has at most.
-const MOST_PACKAGES: usize = 65_536;
+// How many packages a link has at most.
+const PACKAGE_LIMIT: usize = 65_536;
 
-/// The paths of the first wave.
-fn first_names(alloc: Global, config: &Config) -> Result<PathList, OutOfMemory>
-    ensures { (main : List ℕ) (held : Contents) → IfOk result (λ names. names ≡ first_wave (told_by main config.now held)) }
+// The paths of the first wave.
+fn first_names(alloc: Global, config: &Config) -> Result<PackagePaths, OutOfMemory>
+    ensures { IfOk result (λ names. names ≡ first_wave (file_in config.now)) }
 {
-    let mut names = PathList::new(alloc);
+    let mut names = PackagePaths::new(alloc);
     names.push(alloc, MAIN)?;
     match config.file_of(RUNTIME) {
         Some(_) => {
@@ -48,54 +47,52 @@ fn first_names(alloc: Global, config: &Config) -> Result<PathList, OutOfMemory>
     }
 }
 
-/// The packages of a wave behind the earlier ones: all their files are read, and then all formats
-/// are checked.
+// The packages of a wave after the earlier ones: all their files are read, and then all formats
+// are checked.
 fn load_files<F: Files>(
     alloc: Global,
     main: &str,
     config: &Config,
-    names: &PathList,
+    names: &PackagePaths,
     earlier: PackageList,
     files: &mut F,
 ) -> Result<PackageList, Fault<Cause>>
     requires some { length earlier ≤ length names.now }
-    requires few { length names.now ≤ most_packages }
-    ensures ok { IfOk result (ReadsWave main.now config.now (F.contents files.old) earlier (drop (length earlier) names.now)) }
-    ensures err { IfErr result (IsFaultFor (IsWavePath main.now config.now names.now) (F.read_count files.old) (F.read_count files.new) (λ refusal. WaveTo main.now config.now (F.contents files.old) earlier (drop (length earlier) names.now) (Err refusal))) }
-    ensures count { CountsFaults (F.read_count files.old) (F.read_count files.new) result }
-    ensures stays { Stays (F.contents files.old) (F.contents files.new) }
-    ensures writes { F.write_count files.new ≡ F.write_count files.old }
+    requires few { length names.now ≤ package_limit }
+    requires files { All (HasFile (inputs_of main.now config.now)) names.now }
+    ensures ok { IfOk result
+        (LoadsFiles (F.state files.old) (inputs_of main.now config.now) earlier names.now) }
+    ensures same { OnOk result (FilesUnchanged (F.state files.old) (F.state files.new)) }
+    ensures err { IfErr result
+        (RefusesFiles (F.state files.old) (F.state files.new) (inputs_of main.now config.now) earlier names.now) }
 {
     let from = earlier.packages() as usize;
-    let left = MOST_BYTES - earlier.bytes();
-    match read_wave(alloc, main, config, names, from, left, files) {
-        Ok(wave) => match add_wave(alloc, main, config, names, earlier, wave) {
-            Ok(now) => Ok(now),
-            Err(fault) => Err(fault),
-        },
-        Err(fault) => Err(fault),
-    }
+    let left = FILE_LIMIT - earlier.bytes();
+    let wave = read_wave(alloc, main, config, names, from, left, files)?;
+    let now = append_wave(alloc, main, config, names, earlier, wave)?;
+    Ok(now)
 }
 
-/// The refusal of a wave for an import: the first that differs, of those from place `compared` on,
-/// or the first that is missing, of those from place `known` on.
+// The refusal of a wave for an import: the first that differs, of those from `compared` on,
+// or the first that is missing, of those from `known` on.
 fn import_refusal(
     alloc: Global,
     list: &PackageList,
-    names: &PathList,
+    names: &PackagePaths,
     config: &Config,
-    places: &[ImportPlace],
+    refs: &[ImportRef],
     compared: usize,
     known: usize,
     earlier: usize,
 ) -> Result<Option<Cause>, OutOfMemory>
     requires paths { paths_of list.now ≡ names.now }
-    requires places { ArePlacesOf list.now list.now places.now }
+    requires refs { AreImportsOf list.now list.now refs.now }
     requires compared { compared ≤ known }
-    requires known { known ≤ length places.now }
-    ensures { (main : List ℕ) (held : Contents) → IfOk result (λ refusal. refusal ≡ option_or (unequal_from list.now names.now earlier (drop compared (imports_of list.now))) (missing_from (told_by main config.now held) names.now (drop known (imports_of list.now)))) }
+    requires known { known ≤ length refs.now }
+    ensures { IfOk result (λ refusal.
+        refusal ≡ import_refusal_of list.now (file_in config.now) names.now earlier compared known) }
 {
-    if let Some(import) = first_unequal(list, names, places, compared, earlier) {
+    if let Some(import) = first_unequal(list, names, refs, compared, earlier) {
         return Ok(Some(Cause::Fingerprint {
             importer: Text::new(alloc, import.importer)?,
             package: Text::new(alloc, import.imported)?,
@@ -103,7 +100,7 @@ fn import_refusal(
             found: fingerprint_of(list, names, import.imported),
         }));
     }
-    match first_missing(list, names, config, places, known) {
+    match first_missing(list, names, config, refs, known) {
         Some(import) => Ok(Some(Cause::MissingPackage {
             importer: Text::new(alloc, import.importer)?,
             package: Text::new(alloc, import.imported)?,
@@ -112,7 +109,7 @@ fn import_refusal(
     }
 }
 
-/// The paths of packages.
+// The paths of packages.
 fn loaded_paths(alloc: Global, packages: &PackageList) -> Result<Vec<Text>, OutOfMemory>
     ensures { IfOk result (λ paths. paths.items ≡ paths_of packages.now) }
 {
@@ -124,11 +121,11 @@ fn loaded_paths(alloc: Global, packages: &PackageList) -> Result<Vec<Text>, OutO
     Ok(paths)
 }
 
-/// The loaded packages, with a table of their paths.
+// The loaded packages, with a table of their paths.
 fn with_table(alloc: Global, list: PackageList) -> Result<Loaded, OutOfMemory>
     ensures same { IfOk result (λ loaded. loaded ≡ list) }
-    ensures few { IfOk result (λ loaded. length loaded ≤ most_packages) }
-    ensures small { IfOk result (λ loaded. file_bytes loaded ≤ most_bytes) }
+    ensures few { IfOk result (λ loaded. length loaded ≤ package_limit) }
+    ensures small { IfOk result (λ loaded. file_bytes loaded ≤ file_limit) }
     ensures objects { IfOk result (λ loaded. All IsObject (objects_of loaded)) }
 {
     let _ = list.bytes();
@@ -137,37 +134,35 @@ fn with_table(alloc: Global, list: PackageList) -> Result<Loaded, OutOfMemory>
     let table = PackageTable::new(alloc, &paths)?;
     Ok(Loaded::new(list, table))
 }
-/// Loads one wave behind the packages of a list, and lists the next. Of the places of imports those
-/// before `compared` were compared before the last wave.
+// Loads one wave after the packages of a list, and lists the next. Of the imports those
+// before `compared` were compared before the last wave.
 fn one_wave<F: Files>(
     alloc: Global,
     main: &str,
     config: &Config,
-    names: &mut PathList,
+    names: &mut PackagePaths,
     list: PackageList,
-    places: &mut Vec<ImportPlace>,
+    refs: &mut Vec<ImportRef>,
     compared: usize,
     files: &mut F,
 ) -> Result<PackageList, Fault<Cause>>
-    requires { IsLoading main.now config.now (F.contents files.old) names.old list places.old.items compared }
-    ensures ok { IfOk result (λ now. IsWaveOf main.now config.now (F.contents files.old) names.old list (length places.old.items) names.new now places.new.items) }
-    ensures err { IfErr result (λ fault. MeansLoad (record { main = main.now; listed = file_in config.now; contents = F.contents files.old; reads_before = F.read_count files.old; reads_now = F.read_count files.new }) (Err fault)) }
-    ensures count { CountsFaults (F.read_count files.old) (F.read_count files.new) result }
-    ensures stays { Stays (F.contents files.old) (F.contents files.new) }
-    ensures writes { F.write_count files.new ≡ F.write_count files.old }
+    requires { let known = (F.state files.old).contents in
+        IsLoading (inputs_of main.now config.now) known names.old list refs.old.items compared }
+    ensures ok { let known = (F.state files.old).contents in let before = length refs.old.items in
+        IfOk result (IsWaveOf (inputs_of main.now config.now) known names.old list before names.new refs.new.items) }
+    ensures same { OnOk result (FilesUnchanged (F.state files.old) (F.state files.new)) }
+    ensures err { IfErr result
+        (RefusesLoad (F.state files.old) (F.state files.new) (inputs_of main.now config.now)) }
 {
     let earlier = list.packages() as usize;
-    let known = places.len();
-    let now = match load_files(alloc, main, config, names, list, files) {
-        Ok(now) => now,
-        Err(fault) => return Err(fault),
-    };
-    add_imports(&now, places, earlier)?;
-    match import_refusal(alloc, &now, names, config, places, compared, known, earlier)? {
+    let known = refs.len();
+    let now = load_files(alloc, main, config, names, list, files)?;
+    add_imports(&now, refs, earlier)?;
+    match import_refusal(alloc, &now, names, config, refs, compared, known, earlier)? {
         Some(refusal) => return Err(Fault::Bad(refusal)),
         None => {}
     }
-    list_imports(alloc, &now, names, places, known)?;
+    queue_imports(alloc, &now, names, refs, known)?;
     Ok(now)
 }
 
@@ -185,38 +180,26 @@ pub fn load_waves<F: Files>(
     config: &Config,
     files: &mut F,
 ) -> Result<Loaded, Fault<Cause>>
-    ensures loads { MeansLoad (record { main = main.now; listed = file_in config.now; contents = F.contents files.old; reads_before = F.read_count files.old; reads_now = F.read_count files.new }) result }
-    ensures count { CountsReads (record { main = main.now; listed = file_in config.now; contents = F.contents files.old; reads_before = F.read_count files.old; reads_now = F.read_count files.new }) result }
+    ensures loads { let inputs = inputs_of main.now config.now in
+        LoadAnswer (F.state files.old) (F.state files.new) inputs result }
     ensures objects { IfOk result (λ loaded. All IsObject (objects_of loaded)) }
-    ensures few { IfOk result (λ loaded. length loaded ≤ most_packages) }
-    ensures small { IfOk result (λ loaded. file_bytes loaded ≤ most_bytes) }
-    ensures stays { Stays (F.contents files.old) (F.contents files.new) }
-    ensures writes { F.write_count files.new ≡ F.write_count files.old }
+    ensures few { IfOk result (λ loaded. length loaded ≤ package_limit) }
+    ensures small { IfOk result (λ loaded. file_bytes loaded ≤ file_limit) }
 {
     let mut names = first_names(alloc, config)?;
     let mut list = PackageList::new(alloc);
-    let mut places = Vec::new(alloc);
+    let mut refs = Vec::new(alloc);
     let mut compared = 0;
     'waves: loop {
-        let known = places.len();
-        list = match one_wave(
-            alloc,
-            main,
-            config,
-            &mut names,
-            list,
-            &mut places,
-            compared,
-            files,
-        ) {
-            Ok(list) => list,
-            Err(fault) => return Err(fault),
-        };
+        let known = refs.len();
+        list = one_wave(
+            alloc, main, config, &mut names, list, &mut refs, compared, files,
+        )?;
         if names.len() == list.packages() as usize {
             let loaded = with_table(alloc, list)?;
             return Ok(loaded);
         }
-        if names.len() > MOST_PACKAGES {
+        if names.len() > PACKAGE_LIMIT {
             return Err(Fault::Bad(Cause::TooLarge {
                 limit: Limit::Packages,
                 number: names.len() as u64,

@@ -24,7 +24,7 @@ unfolding lines
 cut_last [] h = refl
 cut_last (b ∷ text) h = let both = not_yet b text h in slice_split-cons_no (λ b. eqb b 10) b text both.0 ∙ ap (onto_first b) (cut_last text both.1)
 
--- what stands first behind the first k elements is element k
+-- what comes first after the first k elements is element k
 pub first_left : (ls more : List (List ℕ)) (line : List ℕ) (k : ℕ) → drop k ls ≡ line ∷ more → (k < length ls) × (get_or ls k [] ≡ line) × (drop (k + 1) ls ≡ more)
 first_left ls more line k e =
     let long : length (drop k ls) ≡ suc (length more) = ap length e in

@@ -1,4 +1,9 @@
-pub mod FlagWords
+pub mod BytesAt
 pub mod Cuts
 pub mod Decimals
 pub mod Escapes
+pub mod FlagWords
+pub mod Groups
+pub mod MultipleLemmas
+pub mod RuleLaws
+pub mod VarintLemmas

@@ -2,29 +2,33 @@
 use Rattle.std.specs.Prelude.{ℕ, List, [], ◌∷◌, ◌++◌}
 use Rattle.byteorder.specs.Endian.{little_bytes}
 use Rattle.glk_base.specs.declared.fields.Field.{Field}
-use Rattle.glk_base.specs.declared.fields.Field.TheVariants.{Byte, Half, Word, Long}
+use Rattle.glk_base.specs.declared.fields.Field.TheVariants.{Byte, U16, U32, U64}
 
 abbrev pub byte : ℕ → ℕ × ℕ
 byte n = (1, n)
 
 -- two bytes
-abbrev pub half : ℕ → ℕ × ℕ
-half n = (2, n)
+abbrev pub u16 : ℕ → ℕ × ℕ
+u16 n = (2, n)
 
 -- four bytes
-abbrev pub word : ℕ → ℕ × ℕ
-word n = (4, n)
+abbrev pub u32 : ℕ → ℕ × ℕ
+u32 n = (4, n)
 
 -- eight bytes
-abbrev pub long : ℕ → ℕ × ℕ
-long n = (8, n)
+abbrev pub u64 : ℕ → ℕ × ℕ
+u64 n = (8, n)
 
 -- a field's width and number
 abbrev pub field_view : Field → ℕ × ℕ
 field_view (Byte n) = byte n
-field_view (Half n) = half n
-field_view (Word n) = word n
-field_view (Long n) = long n
+field_view (U16 n) = u16 n
+field_view (U32 n) = u32 n
+field_view (U64 n) = u64 n
+
+-- the bytes of a field
+abbrev pub field_bytes : ℕ × ℕ → List ℕ
+field_bytes field = little_bytes field.0 field.1
 
 -- the bytes of fields, one after the other
 unfoldable pub fields_bytes : List (ℕ × ℕ) → List ℕ

@@ -10,9 +10,9 @@ pub data Flagged : Type 0 where
   plain : Flagged
   -- two dashes alone: they end the flags
   end : Flagged
-  -- like a flag, but what stands behind the dashes is no name
+  -- like a flag, but what follows the dashes is no name
   bad_syntax : Flagged
-  -- a flag: its name, and its value where an equals sign stands behind the name
+  -- a flag: its name, and its value where an equals sign follows the name
   flag : (name : List ℕ) (value : Option (List ℕ)) → Flagged
 
 abbrev pub dash : ℕ
@@ -21,22 +21,22 @@ dash = 45
 abbrev pub equals : ℕ
 equals = 61
 
--- what stands behind a dash, where the text begins with one
+-- what follows a dash, where the text begins with one
 unfoldable pub after_dash : List ℕ → Option (List ℕ)
 after_dash [] = None
 after_dash (b ∷ rest) = if b == dash then Some rest else None
 
--- a name, and behind its first equals sign a value
-unfoldable pub named : List ℕ → Flagged
-named body =
+-- a name, and after its first equals sign a value
+unfoldable pub named_flag : List ℕ → Flagged
+named_flag body =
     if nat_lt (position_or_len (λ b. b == equals) body) (length body)
     then flag (before_first (λ b. b == equals) body) (Some (after_first (λ b. b == equals) body))
     else flag body None
 
--- what stands behind the dashes of a flag: a name does not begin with a dash or an equals sign
+-- what follows the dashes of a flag: a name does not begin with a dash or an equals sign
 unfoldable pub flag_with : List ℕ → Flagged
 flag_with [] = bad_syntax
-flag_with (b ∷ body) = if b == dash then bad_syntax else (if b == equals then bad_syntax else named (b ∷ body))
+flag_with (b ∷ body) = if b == dash then bad_syntax else (if b == equals then bad_syntax else named_flag (b ∷ body))
 
 -- a flag has one dash or two; a single dash is plain
 abbrev pub behind_two : List ℕ → Option (List ℕ) → Flagged

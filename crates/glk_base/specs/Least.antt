@@ -1,4 +1,4 @@
--- The least place at which something is so.
+-- The least number at which something is so.
 use Rattle.std.specs.Prelude.{◌≡◌, ◌<◌, ◌≤◌, ℕ, Option, Some, None}
 
 -- no number has the property
@@ -14,14 +14,14 @@ abbrev pub LeastOf : (ℕ → Type 0) → Option ℕ → Type 0
 LeastOf P None = Nowhere P
 LeastOf P (Some n) = IsLeast P n
 
--- one of the n records at these places is bad, and this is its place
-pub record BadRecord (n : ℕ) (place : ℕ → ℕ) (Bad : ℕ → Type 0) (offset : ℕ) : Type 0 where
+-- one of the n records at these offsets is bad, and this is its offset
+pub record BadRecord (n : ℕ) (offset_of : ℕ → ℕ) (Bad : ℕ → Type 0) (offset : ℕ) : Type 0 where
   pub index : ℕ
   pub inside : index < n
-  pub at : offset ≡ place index
+  pub at : offset ≡ offset_of index
   pub bad : Bad index
 
--- the fault stands in one of these groups of records
+-- the fault is in one of these groups of records
 pub record InSomeGroup (In : ℕ → Type 0) (Fault : ℕ → ℕ → Type 0) (offset : ℕ) : Type 0 where
   pub group : ℕ
   pub among : In group

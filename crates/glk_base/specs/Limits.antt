@@ -1,6 +1,6 @@
 -- How long files may be.
 use Rattle.std.specs.Prelude.{ℕ, ◌^◌}
 
--- an archive has at most so many bytes, and so have all package files of a link together
-abbrev pub most_bytes : ℕ
-most_bytes = 2 ^ 30
+-- an archive has at most this many bytes, and so have all package files of a link together
+abbrev pub file_limit : ℕ
+file_limit = 2 ^ 30

@@ -20,30 +20,30 @@ is_blank b = (b == space) || (b == 9) || (b == 13)
 abbrev pub is_space : ℕ → Bool
 is_space b = b == space
 
--- What stands between newlines. Behind a newline at the text's end there is one line more, an empty
--- one; it says nothing, so the last line may have a newline or lack it.
+-- What is between newlines. After a newline at the text's end there is one line more, an empty one; it says
+-- nothing, so the last line may have a newline or lack it.
 unfoldable pub lines : List ℕ → List (List ℕ)
 lines text = slice_split (λ b. b == newline) text
 
 -- a line without the blanks at its ends
-unfoldable pub trimmed : List ℕ → List ℕ
-trimmed line =
+unfoldable pub trimmed_line : List ℕ → List ℕ
+trimmed_line line =
     let rest = drop (prefix_len is_blank line) line in
     take (length rest - suffix_len is_blank rest) rest
 
--- a line that is passed over: it is empty, or a comment
-abbrev pub is_passed : List ℕ → Bool
-is_passed t = (length t == 0) || (slice_index t 0 == comment_sign)
+-- a line that is skipped: it is empty, or a comment
+abbrev pub is_skipped : List ℕ → Bool
+is_skipped t = (length t == 0) || (slice_index t 0 == comment_sign)
 
 -- line k, from 0, without the blanks at its ends
 abbrev pub line_at : List (List ℕ) → ℕ → List ℕ
-line_at ls k = trimmed (slice_index_or ls k [])
+line_at ls k = trimmed_line (slice_index_or ls k [])
 
--- what stands before the first space
+-- what is before the first space
 unfoldable pub first_word : List ℕ → List ℕ
 first_word t = take (position_or_len is_space t) t
 
--- what stands behind it and the spaces that follow it
+-- what is after it and the spaces that follow it
 unfoldable pub after_word : List ℕ → List ℕ
 after_word t =
     let rest = drop (position_or_len is_space t) t in
@@ -84,7 +84,7 @@ abbrev pub left_size : Option (Bor (List ℕ)) → ℕ
 left_size None = 0
 left_size (Some text) = length text.now + 1
 
--- the first line of a text, and what stands behind its newline, where it has one
+-- the first line of a text, and what follows its newline, where it has one
 pub record IsCut (text line : List ℕ) (rest : Option (Bor (List ℕ))) : Type 0 where
   pub cut : lines text ≡ line ∷ left_lines rest
   pub shorter : left_size rest ≤ length text

@@ -1,16 +1,16 @@
-// The shapes of failure: a refusal, or want of memory.
+// The shapes of failure: a refusal, or out of memory.
 ghost use Rattle.std.specs.Prelude.{◌≡◌};
 
 use std::alloc::{AllocError, AllocFailed};
 
-/// A refusal of a call, or want of memory.
+/// A refusal of a call, or out of memory.
 #[derive(Debug, Drop)]
 pub enum Fault<E> {
     Bad(E),
     OutOfMemory,
 }
 
-/// Want of memory. No clause ties it to a refused growth: it is the one answer that is free.
+/// Out of memory. No clause ties it to a refused growth: it is the one answer that is free.
 #[derive(Clone, Copy, Debug, PartialEq, Eq)]
 pub struct OutOfMemory;
 

@@ -1,7 +1,6 @@
 // Records and headers as lists of fields.
 ghost use Rattle.std.specs.Prelude.{◌≡◌, ◌++◌, OnOk, OnErr, map, ℕ, List};
-ghost use Rattle.byteorder.specs.Endian.{little_bytes};
-ghost use Rattle.glk_base.specs.Fields.{fields_bytes, field_view};
+ghost use Rattle.glk_base.specs.Fields.{field_bytes, fields_bytes, field_view};
 
 use super::fault::OutOfMemory;
 
@@ -9,27 +8,29 @@ use super::fault::OutOfMemory;
 #[derive(Clone, Copy, Debug)]
 pub enum Field {
     Byte(u8),
-    Half(u16),
-    Word(u32),
-    Long(u64),
+    U16(u16),
+    U32(u32),
+    U64(u64),
 }
 
 // Adds a field at the end.
 fn push_field(out: &mut Vec<u8>, field: Field) -> Result<(), OutOfMemory>
-    ensures whole { OnOk result (out.new.items ≡ out.old.items ++ little_bytes (field_view field).0 (field_view field).1) }
+    ensures whole { OnOk result (out.new.items ≡ out.old.items ++ field_bytes (field_view field)) }
     ensures stays { OnErr result (out.new.items ≡ out.old.items) }
 {
     match field {
         Field::Byte(n) => out.push(n)?,
-        Field::Half(n) => out.extend_from_slice(&n.to_le_bytes())?,
-        Field::Word(n) => out.extend_from_slice(&n.to_le_bytes())?,
-        Field::Long(n) => out.extend_from_slice(&n.to_le_bytes())?,
+        Field::U16(n) => out.extend_from_slice(&n.to_le_bytes())?,
+        Field::U32(n) => out.extend_from_slice(&n.to_le_bytes())?,
+        Field::U64(n) => out.extend_from_slice(&n.to_le_bytes())?,
     }
     Ok(())
 }
 
-/// Adds the bytes of fields at the end. Where memory is wanting, what was there stays, and some of them
-/// may stand behind it.
+/// Adds the bytes of fields at the end.
+///
+/// # Errors
+/// Out of memory: what was there stays, and some of the new bytes may follow it.
 #[tactic(auto, unfolding(crate::specs::Fields::fields_bytes))]
 pub fn push_fields(out: &mut Vec<u8>, fields: &[Field]) -> Result<(), OutOfMemory>
     ensures whole { OnOk result (out.new.items ≡ out.old.items ++ fields_bytes (map field_view fields.now)) }

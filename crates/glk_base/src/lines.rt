@@ -3,7 +3,7 @@ ghost use Rattle.std.specs.Prelude.{◌≡◌, ◌==◌, ◌<◌, ◌≤◌, ◌
 ghost use Rattle.std.specs.Fmt.{decimal};
 ghost use Rattle.std.specs.List.{position_or_len, prefix_len};
 ghost use Rattle.std.specs.Str.{is_utf8};
-ghost use Rattle.glk_base.specs.Lines.{IsCut, BeginsNumber, trimmed, is_blank as blank, is_space as space, is_passed as passed, first_word as first_word_of, after_word as after_word_of};
+ghost use Rattle.glk_base.specs.Lines.{IsCut, BeginsNumber, trimmed_line, is_blank as blank, is_space as space, is_skipped as skipped, first_word as first_word_of, after_word as after_word_of};
 
 /// A bad line of a configuration file.
 #[derive(Clone, Copy, Debug, PartialEq, Eq)]
@@ -12,14 +12,14 @@ pub struct ConfigLine {
     pub line: u32,
 }
 
-/// A space, a tab or a carriage return.
+// A space, a tab or a carriage return.
 fn is_blank(byte: u8) -> bool
     ensures { result ≡ blank byte }
 {
     byte == b' ' || byte == b'\t' || byte == b'\r'
 }
 
-/// The place of the first such byte, or the length where there is none.
+/// The index of the first such byte, or the length where there is none.
 pub fn first_of(bytes: &[u8], byte: u8) -> usize
     ensures place { result ≡ position_or_len (λ b. b == byte) bytes.now }
     ensures inside { result ≤ length bytes.now }
@@ -32,8 +32,8 @@ pub fn first_of(bytes: &[u8], byte: u8) -> usize
     bytes.len()
 }
 
-/// The first line of a text, and what stands behind its newline, if it has one. To go over all
-/// lines, cut what is left until nothing is.
+/// The first line of a text, and what follows its newline, if it has one. To go over all lines, cut
+/// what is left until nothing is.
 pub fn cut_line(text: &[u8]) -> (&[u8], Option<&[u8]>)
     ensures { IsCut text.now result.0.now result.1 }
 {
@@ -45,7 +45,7 @@ pub fn cut_line(text: &[u8]) -> (&[u8], Option<&[u8]>)
     }
 }
 
-/// How many blanks a line begins with.
+// How many blanks a line begins with.
 fn blanks(line: &[u8]) -> usize
     ensures place { result ≡ prefix_len blank line.now }
     ensures inside { result ≤ length line.now }
@@ -59,9 +59,9 @@ fn blanks(line: &[u8]) -> usize
 }
 
 /// A line without the spaces, tabs and carriage returns at its ends.
-#[tactic(auto, unfolding(crate::specs::Lines::trimmed))]
+#[tactic(auto, unfolding(crate::specs::Lines::trimmed_line))]
 pub fn trim(line: &[u8]) -> &[u8]
-    ensures { result.now ≡ trimmed line.now }
+    ensures { result.now ≡ trimmed_line line.now }
 {
     let start = blanks(line);
     let field = &line[start..];
@@ -72,9 +72,9 @@ pub fn trim(line: &[u8]) -> &[u8]
     &field[..n]
 }
 
-/// Whether a line that is trimmed is passed over: it is empty, or begins with `#`.
-pub fn is_passed(line: &[u8]) -> bool
-    ensures { result ≡ passed line.now }
+/// Whether a line that is trimmed is skipped: it is empty, or begins with `#`.
+pub fn is_skipped(line: &[u8]) -> bool
+    ensures { result ≡ skipped line.now }
 {
     line.is_empty() || line[0] == b'#'
 }
@@ -97,7 +97,7 @@ pub fn first_word(line: &[u8]) -> &[u8]
     &line[..first_of(line, b' ')]
 }
 
-/// How many spaces these bytes begin with.
+// How many spaces these bytes begin with.
 fn spaces(bytes: &[u8]) -> usize
     ensures place { result ≡ prefix_len space bytes.now }
     ensures inside { result ≤ length bytes.now }
@@ -110,7 +110,7 @@ fn spaces(bytes: &[u8]) -> usize
     bytes.len()
 }
 
-/// What a line has behind its first space and the spaces that follow.
+/// What a line has after its first space and the spaces that follow.
 #[tactic(auto, unfolding(crate::specs::Lines::after_word))]
 pub fn after_word(line: &[u8]) -> &[u8]
     ensures { result.now ≡ after_word_of line.now }
@@ -119,7 +119,7 @@ pub fn after_word(line: &[u8]) -> &[u8]
     &rest[spaces(rest)..]
 }
 
-/// Whether these bytes begin as a number does: with a digit, and with `0` only where nothing follows.
+// Whether these bytes begin as a number does: with a digit, and with `0` only where nothing follows.
 fn begins_number(digits: &[u8]) -> bool
     ensures { IsTrue result ↔ BeginsNumber digits.now }
 {

@@ -1,7 +1,7 @@
 // Paths of packages as objects store them: as they are, or in an escaped spelling, which Go's
 // `cmd/internal/objabi` makes for symbol names (`PathToPrefix`).
 ghost use Rattle.std.specs.Prelude.{◌≡◌, ◌<◌, ◌≤◌, ◌↔◌, ◌++◌, List, ℕ, length, take, IfOk, IsTrue, MatchOption};
-ghost use Rattle.glk_base.specs.Paths.{must_escape as must_escape_of, hex_digit as hex_digit_of, spelled, last_part as last_part_of, escaped, IsSamePath};
+ghost use Rattle.glk_base.specs.Paths.{must_escape as must_escape_of, hex_digit as hex_digit_of, byte_spelling, last_part as last_part_of, escaped_spelling, IsSamePath};
 
 use super::{OutOfMemory, Text};
 use std::alloc::Global;
@@ -26,11 +26,11 @@ fn must_escape(in_last_part: bool, b: u8) -> bool
     b <= b' ' || b == b'%' || b == b'"' || b > b'~' || (in_last_part && b == b'.')
 }
 
-#[tactic(auto, unfolding(crate::specs::Paths::spelled))]
+#[tactic(auto, unfolding(crate::specs::Paths::byte_spelling))]
 fn spelling(in_last_part: bool, b: u8) -> Spelled
-    ensures same { take result.len result.bytes ≡ spelled in_last_part b }
+    ensures same { take result.len result.bytes ≡ byte_spelling in_last_part b }
     ensures len { result.len ≤ 3 }
-    ensures long { length (spelled in_last_part b) ≡ result.len }
+    ensures long { length (byte_spelling in_last_part b) ≡ result.len }
 {
     if must_escape(in_last_part, b) {
         return Spelled {
@@ -44,7 +44,7 @@ fn spelling(in_last_part: bool, b: u8) -> Spelled
     }
 }
 
-/// The place behind the last slash.
+/// The index after the last slash.
 #[tactic(auto, unfolding(crate::specs::Paths::last_part))]
 fn last_part(path: &[u8]) -> usize
     ensures { result ≡ last_part_of path.now }
@@ -56,10 +56,10 @@ fn last_part(path: &[u8]) -> usize
     n
 }
 
-/// What stands behind the spelling of a byte, or none where these bytes do not begin with it.
+/// What follows the spelling of a byte, or none where these bytes do not begin with it.
 fn behind_spelling(rest: &[u8], in_last_part: bool, b: u8) -> Option<&[u8]>
-    ensures { MatchOption result ((more : List ℕ) → rest.now ≡ spelled in_last_part b ++ more → ⊥)
-        (λ after. rest.now ≡ spelled in_last_part b ++ after.now) }
+    ensures { MatchOption result ((more : List ℕ) → rest.now ≡ byte_spelling in_last_part b ++ more → ⊥)
+        (λ after. rest.now ≡ byte_spelling in_last_part b ++ after.now) }
 {
     let code = spelling(in_last_part, b);
     let front = &code.bytes[..code.len];
@@ -71,7 +71,7 @@ fn behind_spelling(rest: &[u8], in_last_part: bool, b: u8) -> Option<&[u8]>
 }
 
 fn is_escaped(stored: &[u8], path: &[u8]) -> bool
-    ensures { IsTrue result ↔ (stored.now ≡ escaped path.now) }
+    ensures { IsTrue result ↔ (stored.now ≡ escaped_spelling path.now) }
 {
     let base = last_part(path);
     let mut rest = stored;
@@ -96,15 +96,15 @@ pub fn same_path(stored: &[u8], path: &[u8]) -> bool
 }
 
 /// The escaped spelling of a path: each byte up to a space, `%`, `"`, each from 0x7f on, and each
-/// dot behind the last slash as `%` and two lower-case hexadecimal digits.
+/// dot after the last slash as `%` and two lower-case hexadecimal digits.
 pub fn escaped_path(alloc: Global, path: &[u8]) -> Result<Text, OutOfMemory>
-    ensures { IfOk result (λ t. t ≡ escaped path.now) }
+    ensures { IfOk result (λ t. t ≡ escaped_spelling path.now) }
 {
     Ok(Text::of(escape(alloc, path)?))
 }
 
 fn escape(alloc: Global, path: &[u8]) -> Result<Vec<u8>, OutOfMemory>
-    ensures { IfOk result (λ out. out.items ≡ escaped path.now) }
+    ensures { IfOk result (λ out. out.items ≡ escaped_spelling path.now) }
 {
     let base = last_part(path);
     let mut out = Vec::new(alloc);

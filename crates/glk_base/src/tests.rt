@@ -1,35 +1,29 @@
 // Each public call once, with memory.
-use super::lines::{
-    after_word, cut_line, first_of, first_word, is_passed, is_text, small_number, trim,
-};
-use super::{
-    Cause, ConfigLine, Field, Form, Seq, StrText, Text, escaped_path, le16, le32, le64,
-    push_fields, same_path,
-};
+use super::lines::{after_word, cut_line, first_word, is_skipped, is_text, small_number, trim};
+use super::{Field, Seq, StrText, Text, escaped_path, le64, push_fields, read_varint, same_path};
 use std::test::Fail;
 
 const BYTES: [u8; 9] = [1, 2, 3, 4, 5, 6, 7, 8, 9];
 
 #[test]
-fn numbers_have_their_lowest_byte_first(rt: HostRuntime) {
-    assert_eq!(rt; le16(&BYTES, 0), Some(0x0201));
-    assert_eq!(rt; le16(&BYTES, 7), Some(0x0908));
-    assert_eq!(rt; le16(&BYTES, 8), None);
-    assert_eq!(rt; le32(&BYTES, 5), Some(0x0908_0706));
-    assert_eq!(rt; le32(&BYTES, 6), None);
+fn numbers_have_their_lowest_part_first(rt: HostRuntime) {
     assert_eq!(rt; le64(&BYTES, 1), Some(0x0908_0706_0504_0302));
-    assert_eq!(rt; le64(&BYTES, 2), None);
-    assert_eq!(rt; le64(&BYTES, usize::MAX), None);
+    // as `binary.PutUvarint` writes 300
+    let number = read_varint(b"\xac\x02\x05", 5, 1 << 35);
+    assert_eq!(rt;
+        number.map(|found| (found.value, found.size)),
+        Some((300, 2))
+    );
 }
 
 #[test]
-fn fields_stand_one_behind_the_other(rt: HostRuntime) -> Result<(), Fail> {
+fn fields_follow_one_another(rt: HostRuntime) -> Result<(), Fail> {
     let mut record = b"x".to_vec(rt.alloc())?;
     let fields = [
-        Field::Half(0x0302),
+        Field::U16(0x0302),
         Field::Byte(4),
-        Field::Long(0x0c0b_0a09_0807_0605),
-        Field::Word(0x100f_0e0d),
+        Field::U64(0x0c0b_0a09_0807_0605),
+        Field::U32(0x100f_0e0d),
     ];
     push_fields(&mut record, &fields)?;
     assert_eq!(rt;
@@ -56,41 +50,13 @@ fn texts_and_lists_hold_what_they_were_given(rt: HostRuntime) -> Result<(), Fail
 }
 
 #[test]
-fn a_text_is_cut_into_lines(rt: HostRuntime) {
-    let (line, rest) = cut_line(b"one\ntwo\n");
-    assert_eq!(rt; line, b"one".as_slice());
-    assert_eq!(rt; rest, Some(b"two\n".as_slice()));
-    let (line, rest) = cut_line(b"two\n");
-    assert_eq!(rt; line, b"two".as_slice());
+fn a_line_is_cut_trimmed_and_taken_apart(rt: HostRuntime) {
+    let (line, rest) = cut_line(b" \tCALL   2 \r\n");
     assert_eq!(rt; rest, Some(b"".as_slice()));
-    let (line, rest) = cut_line(b"two");
-    assert_eq!(rt; line, b"two".as_slice());
-    assert_eq!(rt; rest, None);
-    assert_eq!(rt; first_of(b"a=b=c", b'='), 1);
-    assert_eq!(rt; first_of(b"abc", b'='), 3);
-    let bad = ConfigLine { line: 3 };
-    assert_eq!(rt; bad, ConfigLine { line: 3 });
-}
-
-#[test]
-fn a_line_loses_the_blanks_at_its_ends(rt: HostRuntime) {
-    assert_eq!(rt; trim(b" \t a b\t \r"), b"a b".as_slice());
-    assert_eq!(rt; trim(b" \r\t"), b"".as_slice());
-    // other white space stays
-    assert_eq!(rt; trim(b"\x0ba\x0c"), b"\x0ba\x0c".as_slice());
-    assert!(rt; is_passed(b""));
-    assert!(rt; is_passed(b"# a"));
-    assert!(rt; !is_passed(b"a #"));
-    assert!(rt; is_text(b"\xc3\xa9"));
-    assert!(rt; !is_text(b"\xc3"));
-}
-
-#[test]
-fn a_line_has_a_word_and_what_follows(rt: HostRuntime) {
-    assert_eq!(rt; first_word(b"CALL   2 "), b"CALL".as_slice());
-    assert_eq!(rt; after_word(b"CALL   2 "), b"2 ".as_slice());
-    assert_eq!(rt; first_word(b"CALL"), b"CALL".as_slice());
-    assert_eq!(rt; after_word(b"CALL"), b"".as_slice());
+    let line = trim(line);
+    assert_eq!(rt; first_word(line), b"CALL".as_slice());
+    assert_eq!(rt; after_word(line), b"2".as_slice());
+    assert!(rt; !is_skipped(line) && is_text(line));
 }
 
 #[test]
@@ -114,28 +80,13 @@ fn a_small_number_has_one_spelling(rt: HostRuntime) {
 }
 
 #[test]
-fn causes_are_compared_by_their_fields(rt: HostRuntime) -> Result<(), Fail> {
-    let alloc = rt.alloc();
-    let absent = Cause::Absent {
-        path: Text::new(alloc, b"m.o")?,
-    };
-    let other = Cause::Absent {
-        path: Text::new(alloc, b"n.o")?,
-    };
-    assert!(rt; absent == absent);
-    assert!(rt; absent != other);
-    assert!(rt; absent != Cause::NotYet { form: Form::Flag });
-    Ok(())
-}
-
-#[test]
 fn a_stored_path_is_plain_or_escaped(rt: HostRuntime) {
     for (stored, path, want) in [
         (b"fmt".as_slice(), b"fmt".as_slice(), true),
         (b"", b"", true),
         (b"fmt", b"fm", false),
         (b"fm", b"fmt", false),
-        // A dot is escaped behind the last slash alone.
+        // A dot is escaped after the last slash alone.
         (b"a.b/c.d", b"a.b/c.d", true),
         (b"a.b/c%2ed", b"a.b/c.d", true),
         (b"a%2eb/c%2ed", b"a.b/c.d", false),

@@ -1,13 +1,15 @@
 pub mod PlaceLemmas
 pub mod PlacingLemmas
+mod Elements
+pub mod ImageOnce
 pub mod PartLemmas
 pub mod FillLemmas
 pub mod LengthLemmas
 pub mod ReaderIntact
 pub mod ReaderFirst
 pub mod ReaderNames
-pub mod ReaderPlaces
-pub mod BytesAt
+pub mod ReaderFacts
+pub mod RecordsBack
 pub mod ImageParts
 pub mod ImageAt
 pub mod ImageHeaders
@@ -17,3 +19,4 @@ pub mod ImageSymbols
 pub mod ImageTables
 pub mod ImageMemory
 pub mod ImageReadBack
+pub mod ImagePatched

@@ -3,13 +3,15 @@ pub mod Sections
 pub mod Image
 pub mod Placing
 pub mod Views
+pub mod Written
 pub mod First
 pub mod ReaderHeaders
 pub mod ReaderStrings
 pub mod ReaderSections
 pub mod ReaderRules
 pub mod ReaderFile
-pub mod ReaderLaid
+pub mod ReaderLayout
 pub mod ReaderFit
 pub mod ReaderViews
 pub mod ReaderLaw
+pub mod SectionBytes

@@ -1,4 +1,4 @@
--- What a place in a list of files says of looking up and putting.
+-- What an index in a list of files says of looking up and putting.
 use Rattle.std.proofs.Common.{◌≡◌, ◌≢◌, ◌<◌, ℕ, zero, suc, true, false, cond, List, [], ◌∷◌, ◌++◌, length, get_or, Some, None, refl, sym, ap, ◌∙◌, arith}
 use Rattle.std.proofs.Math.ListN.{set}
 use Rattle.std.specs.Str.{bytes_eq}
@@ -14,7 +14,7 @@ same p q e = (bytes_eq-Decides p q).1 (sym e)
 other_path : (p q : List ℕ) → q ≢ p → bytes_eq q p ≡ false
 other_path p q ne = grind (arith, bytes_eq-Decides q p)
 
--- what stands at place i and nowhere before is found there
+-- what is at index i and nowhere before is found there
 pub found : (files : Contents) (path : List ℕ) (i : ℕ) → i < length files
     → ((k : ℕ) (d : List ℕ × List ℕ) → k < i → bytes_eq path (get_or files k d).0 ≡ false)
     → ((d : List ℕ × List ℕ) → (get_or files i d).0 ≡ path) → FoundAt files path i
@@ -25,7 +25,7 @@ found (e ∷ es) path (suc i) lt before here = (
   found es path i (omega arith) (λ k d h. before (suc k) d (omega arith)) (λ d. here d),
 )
 
--- what stands nowhere is not there
+-- what is nowhere is not found
 pub not_found : (files : Contents) (path : List ℕ)
     → ((k : ℕ) (d : List ℕ × List ℕ) → k < length files → bytes_eq path (get_or files k d).0 ≡ false)
     → file_in files path ≡ None
@@ -33,14 +33,14 @@ not_found [] path none = refl
 not_found (e ∷ es) path none =
     rw (none 0 e (omega arith)) (not_found es path (λ k d h. none (suc k) d (omega arith)))
 
--- the bytes at that place
+-- the bytes at that index
 pub found_bytes : (files : Contents) (path : List ℕ) (i : ℕ) (d : List ℕ × List ℕ) → FoundAt files path i
     → file_in files path ≡ Some (get_or files i d).1
 found_bytes [] path i d at = absurd at
 found_bytes (e ∷ es) path zero d at = rw (same path e.0 at) refl
 found_bytes (e ∷ es) path (suc i) d at = rw at.0 (found_bytes es path i d at.1)
 
--- putting bytes at that place
+-- putting bytes at that index
 pub set_there : (files : Contents) (path name bytes : List ℕ) (i : ℕ) → FoundAt files path i → name ≡ path
     → file_in (set files i (name, bytes)) path ≡ Some bytes
 set_there [] path name bytes i at e = absurd at
@@ -85,20 +85,20 @@ push_replaces files path bytes none = record {
   others = push_others files path bytes;
 }
 
--- the place is in the list
+-- the index is in the list
 pub found_below : (files : Contents) (path : List ℕ) (i : ℕ) → FoundAt files path i → i < length files
 found_below [] path i at = absurd at
 found_below (e ∷ es) path zero at = omega arith
 found_below (e ∷ es) path (suc i) at = omega (arith, found_below es path i at.1)
 
--- the path at that place
+-- the path at that index
 pub found_path : (files : Contents) (path : List ℕ) (i : ℕ) (d : List ℕ × List ℕ) → FoundAt files path i
     → (get_or files i d).0 ≡ path
 found_path [] path i d at = absurd at
 found_path (e ∷ es) path zero d at = at
 found_path (e ∷ es) path (suc i) d at = found_path es path i d at.1
 
--- another path at the front of the list
+-- another path at the start of the list
 front_other : (path name : List ℕ) → bytes_eq path name ≡ false → name ≢ path
 front_other path name differs e = let is : bytes_eq path name ≡ true = same path name e in cc
 

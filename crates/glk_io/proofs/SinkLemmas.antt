@@ -1,12 +1,13 @@
--- Pieces that stand in a sink, one after the other.
+-- Pieces in a sink, one after the other.
 use Rattle.std.proofs.Common.{◌≡◌, ◌≤◌, ◌<◌, length-append, ℕ, ◌+◌, List, [], ◌∷◌, ◌++◌, get_or, Bor, sym, ap, ◌∙◌, add-one, take, drop, length, ◌-◌, Option, Some, None, Result, Ok, Err, OnErr, refl, append_assoc, arith}
 use Rattle.std.specs.Io.KnownBytes.{Appends}
 use Rattle.std.proofs.Math.Seq.{take-add, take-append-add, take-suc}
 use Rattle.std.proofs.lemmas.List.{take-append-le, take-append-drop, append-nil}
-use Rattle.glk_io.specs.Streams.{AppendsFront, joined}
+use Rattle.glk_io.specs.Changes.{SinkState, SinkAppends, SinkFails}
+use Rattle.glk_io.specs.Streams.{AppendsPrefix, joined}
 use Rattle.std.proofs.lemmas.Grind.{common_steps}
 
--- a front of i bytes, and after it n more
+-- a prefix of i bytes, and after it n more
 pub appends_more : (a b c : Option (List ℕ)) (p : List ℕ) (i n : ℕ) → Appends a b (take i p) → Appends b c (take n (drop i p)) → Appends a c (take (i + n) p)
 appends_more None b c p i n h k = tt
 appends_more (Some xs) None c p i n h k = absurd h
@@ -28,16 +29,16 @@ both_whole (Some ps) None c xs ys h k = absurd h
 both_whole (Some ps) (Some bs) None xs ys h k = absurd k
 both_whole (Some ps) (Some bs) (Some cs) xs ys h k = rw (k, h) (append_assoc ps xs ys)
 
--- a front of the first of two pieces
-pub front_left : (a b : Option (List ℕ)) (xs ys : List ℕ) → AppendsFront a b xs → AppendsFront a b (xs ++ ys)
-front_left a b xs ys f =
+-- a prefix of the first of two pieces
+pub prefix_left : (a b : Option (List ℕ)) (xs ys : List ℕ) → AppendsPrefix a b xs → AppendsPrefix a b (xs ++ ys)
+prefix_left a b xs ys f =
     let le : f.0 ≤ length (xs ++ ys) = omega (arith, length-append xs ys, f.1) in
     let short : f.0 ≤ length xs = f.1 in
     (f.0, le, rw (take-append-le f.0 xs ys short) f.2)
 
--- the first of two pieces, and a front of the second
-pub front_right : (a b c : Option (List ℕ)) (xs ys : List ℕ) → Appends a b xs → AppendsFront b c ys → AppendsFront a c (xs ++ ys)
-front_right a b c xs ys h f =
+-- the first of two pieces, and a prefix of the second
+pub prefix_right : (a b c : Option (List ℕ)) (xs ys : List ℕ) → Appends a b xs → AppendsPrefix b c ys → AppendsPrefix a c (xs ++ ys)
+prefix_right a b c xs ys h f =
     let le : length xs + f.0 ≤ length (xs ++ ys) = omega (arith, length-append xs ys, f.1) in
     (length xs + f.0, le, rw (take-append-add xs ys f.0) (both_whole a b c xs (take f.0 ys) h f.2))
 
@@ -46,7 +47,7 @@ pub on_err : {T E : Type 0} (r : Result T E) (P : Type 0) → P → OnErr r P
 on_err (Ok x) P p = tt
 on_err (Err e) P p = p
 
--- pieces one after the other, and those of a front with one more
+-- pieces one after the other, and those of a prefix with one more
 pub joined_append : (ps qs : List (Bor (List ℕ))) → joined (ps ++ qs) ≡ joined ps ++ joined qs
 joined_append [] qs = refl
 joined_append (p ∷ ps) qs = rw (joined_append ps qs) (sym (append_assoc p.now (joined ps) (joined qs)))
@@ -56,7 +57,7 @@ joined_more ps n d inside =
     let cut : take (n + 1) ps ≡ take n ps ++ get_or ps n d ∷ [] = rw (add-one n) (take-suc ps n d inside) in
     rw cut (joined_append (take n ps) (get_or ps n d ∷ []) ∙ ap (λ x. joined (take n ps) ++ x) (append-nil (get_or ps n d).now))
 
--- all pieces are a front of them and the rest
+-- all pieces are a prefix of them and the rest
 pub joined_split : (ps : List (Bor (List ℕ))) (n : ℕ) → joined ps ≡ joined (take n ps) ++ joined (drop n ps)
 joined_split ps n = ap joined (sym (take-append-drop n ps)) ∙ joined_append (take n ps) (drop n ps)
 
@@ -65,8 +66,23 @@ module _ (a b c : Option (List ℕ)) (ps : List (Bor (List ℕ))) (n : ℕ) (d :
   pub one_more : Appends a b (joined (take n ps)) → Appends b c (get_or ps n d).now → Appends a c (joined (take (n + 1) ps))
   one_more h k = rw (joined_more ps n d inside) (both_whole a b c (joined (take n ps)) (get_or ps n d).now h k)
 
-  -- a front of one more piece is a front of all
-  pub one_front : Appends a b (joined (take n ps)) → AppendsFront b c (get_or ps n d).now → AppendsFront a c (joined ps)
-  one_front h f =
-      let g : AppendsFront a c (joined (take (n + 1) ps)) = rw (joined_more ps n d inside) (front_right a b c (joined (take n ps)) (get_or ps n d).now h f) in
-      rw (joined_split ps (n + 1)) (front_left a c (joined (take (n + 1) ps)) (joined (drop (n + 1) ps)) g)
+  -- a prefix of one more piece is a prefix of all
+  pub one_prefix : Appends a b (joined (take n ps)) → AppendsPrefix b c (get_or ps n d).now → AppendsPrefix a c (joined ps)
+  one_prefix h f =
+      let g : AppendsPrefix a c (joined (take (n + 1) ps)) = rw (joined_more ps n d inside) (prefix_right a b c (joined (take n ps)) (get_or ps n d).now h f) in
+      rw (joined_split ps (n + 1)) (prefix_left a c (joined (take (n + 1) ps)) (joined (drop (n + 1) ps)) g)
+
+-- the same of a sink with its count
+module _ (a b c : SinkState) (ps : List (Bor (List ℕ))) (n : ℕ) (d : Bor (List ℕ)) (inside : n < length ps) where
+  pub pieces_more : SinkAppends a b (joined (take n ps)) → SinkAppends b c (get_or ps n d).now → SinkAppends a c (joined (take (n + 1) ps))
+  pieces_more h k = record {
+    bytes_are = one_more a.held b.held c.held ps n d inside h.bytes_are k.bytes_are;
+    faults = k.faults ∙ h.faults;
+  }
+
+  pub pieces_fail : SinkAppends a b (joined (take n ps)) → SinkFails b c (get_or ps n d).now → SinkFails a c (joined ps)
+  pieces_fail h f = record {
+    prefix = one_prefix a.held b.held c.held ps n d inside h.bytes_are f.prefix;
+    later = rw h.faults at f.later;
+    rose = rw h.faults at f.rose;
+  }

@@ -1,9 +1,9 @@
--- Files as their owner tells them: paths with bytes, or nothing.
-use Rattle.std.specs.Prelude.{◌≡◌, ◌≢◌, ℕ, ◌≤◌, List, take, length, Option, Some, None, ⊤}
+-- Files as their owner knows them: paths with bytes, or nothing.
+use Rattle.std.specs.Prelude.{◌≡◌, ◌≢◌, ◌⊎◌, ℕ, ◌≤◌, List, take, length, Option, Some, None, ⊤}
 use Rattle.std.specs.Map.{lookup}
 use Rattle.std.specs.Str.{bytes_eq}
 
--- paths with their bytes; where a path stands twice, the first counts
+-- paths with their bytes; where a path is listed twice, the first counts
 abbrev pub Contents : Type 0
 Contents = List (List ℕ × List ℕ)
 
@@ -16,22 +16,26 @@ pub record Replaces (before now : Contents) (path bytes : List ℕ) : Type 0 whe
   pub there : file_in now path ≡ Some bytes
   pub others : (other : List ℕ) → other ≢ path → file_in now other ≡ file_in before other
 
--- a fact about told contents
-abbrev pub WhereTold : Option Contents → (Contents → Type 0) → Type 0
-WhereTold None P = ⊤
-WhereTold (Some files) P = P files
+-- a fact of contents, where they are known
+abbrev pub IfKnown : Option Contents → (Contents → Type 0) → Type 0
+IfKnown None P = ⊤
+IfKnown (Some files) P = P files
 
--- what is told stays told, and as it was
-abbrev pub Stays : Option Contents → Option Contents → Type 0
-Stays before now = now ≡ before
+-- the contents are as before; known ones stay known
+abbrev pub Unchanged : Option Contents → Option Contents → Type 0
+Unchanged before now = now ≡ before
 
--- a write took place: where the contents were told they still are, with the bytes at the path
+-- a write took place: contents that were known still are, with the bytes at the path
 abbrev pub Writes : Option Contents → Option Contents → List ℕ → List ℕ → Type 0
 Writes None now path bytes = now ≡ None
 Writes (Some before) None path bytes = ⊥
 Writes (Some before) (Some now) path bytes = Replaces before now path bytes
 
--- a write was cut short: the file is a front of the bytes
-abbrev pub CutsShort : Option Contents → Option Contents → List ℕ → List ℕ → Type 0
-CutsShort before now path bytes =
+-- a write was cut short: the file is a prefix of the bytes
+abbrev pub WritesPrefix : Option Contents → Option Contents → List ℕ → List ℕ → Type 0
+WritesPrefix before now path bytes =
     (kept : ℕ) × (kept ≤ length bytes) × Writes before now path (take kept bytes)
+
+-- what a failed write leaves: the contents are as before, or the file is a prefix of the bytes
+abbrev pub PartlyWritten : Option Contents → Option Contents → List ℕ → List ℕ → Type 0
+PartlyWritten before now path bytes = Unchanged before now ⊎ WritesPrefix before now path bytes

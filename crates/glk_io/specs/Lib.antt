@@ -1,6 +1,8 @@
 pub mod Counts
 pub mod Contents
 pub mod Streams
+pub mod Changes
 pub mod Files
 pub mod Paths
 pub mod Memory
+pub mod System

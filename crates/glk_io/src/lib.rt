@@ -1,8 +1,9 @@
 //! The outside: files, sources and sinks as traits, in memory and over the system; and the gate
 //! that workers pass.
 //!
-//! What an object holds is optional: memory tells it, a real file or stream does not, and what is
-//! said of contents holds where they are told. Each trait has counts of faults that never fall.
+//! What an object holds is optional: it is known of memory and not of a real file or stream, and what
+//! is said of contents holds where they are known. Each trait has counts of faults that never fall,
+//! and that rise in the answer alone that reports the fault.
 #![tactic(auto)]
 
 mod files;

@@ -1,14 +1,14 @@
 // Files in memory, some of whose calls fail.
-ghost use Rattle.std.specs.Prelude.{◌≡◌, ◌≤◌, ◌↔◌, ℕ, [], Option, IsSome, IfOk, length, option_copied};
+ghost use Rattle.std.specs.Prelude.{◌≡◌, ◌≤◌, ◌↔◌, ℕ, [], Option, IsSome, IfOk, length, map, option_copied};
 ghost use Rattle.std.specs.Prelude.{IsErrOf};
-ghost use Rattle.glk_io.specs.Contents.{file_in, Stays};
-ghost use Rattle.glk_io.specs.Files.{ReadTells, HasReadCause, WriteLeaves, HasWriteCause};
-ghost use Rattle.glk_io.specs.Memory.{listed, after_read, after_write, WritesListed};
+ghost use Rattle.glk_io.specs.Contents.{file_in};
+ghost use Rattle.glk_io.specs.Files.{ReadsFile, WritesFile};
+ghost use Rattle.glk_io.specs.Memory.{listed, memory_files, paths_of, after_read, after_write, WritesListed};
 ghost use Rattle.glk_io.specs.Paths.{IsOnce};
 
 use super::files::{Files, ReadError, WriteError};
 use super::paths::{index_of, put};
-use glk_base::{StrText, Text};
+use glk_base::{OutOfMemory, StrText, Text};
 use std::alloc::Global;
 use std::marker::Model;
 
@@ -76,6 +76,18 @@ impl MemFiles {
         }
     }
 
+    /// The paths of the files: in the order of `new`, then in that of their first writes. It is no
+    /// call in the sense of `CallFail`.
+    pub fn paths(&self, alloc: Global) -> Result<Vec<&str>, OutOfMemory>
+        ensures { IfOk result (λ list. map (λ path. path.now) list.items ≡ paths_of self.now.contents) }
+    {
+        let mut paths = Vec::new(alloc);
+        for entry in &self.files {
+            paths.push(entry.0.as_str())?;
+        }
+        Ok(paths)
+    }
+
     /// The bytes at a path. It is no call in the sense of `CallFail`.
     pub fn get(&self, path: &str) -> Option<&[u8]>
         ensures { option_copied result ≡ file_in self.now.contents path.now }
@@ -98,13 +110,9 @@ fn kept_at(fails: &[CallFail], call: u64) -> Option<usize>
 }
 
 impl Files for MemFiles {
-    ghost use Rattle.std.specs.Prelude.{Some};
+    ghost use Rattle.glk_io.specs.Memory.{memory_files};
 
-    ghost contents = { λ m. Some m.contents };
-
-    ghost read_count = { λ m. m.read_faults };
-
-    ghost write_count = { λ m. m.write_faults };
+    ghost state = { λ m. memory_files m };
 
     fn read_faults(&self) -> u64
         ensures count { result ≡ self.now.read_faults }
@@ -122,10 +130,7 @@ impl Files for MemFiles {
 
     fn read_file(&mut self, alloc: Global, path: &str, max: u64) -> Result<Vec<u8>, ReadError>
         ensures short { IfOk result (λ bytes. length bytes.items ≤ max) }
-        ensures told { ReadTells (Some self.old.contents) path.now max result }
-        ensures stays { Stays (Some self.old.contents) (Some self.new.contents) }
-        ensures cause { HasReadCause self.old.read_faults self.new.read_faults result }
-        ensures writes { self.new.write_faults ≡ self.old.write_faults }
+        ensures reads { ReadsFile (memory_files self.old) (memory_files self.new) path.now max result }
         // It fails exactly where the call is listed.
         ensures listed { IsErrOf result ReadError.Failed ↔ IsSome (listed self.old.fails self.old.calls) }
         ensures after { self.new ≡ after_read self.old }
@@ -146,12 +151,10 @@ impl Files for MemFiles {
     }
 
     fn write_file(&mut self, alloc: Global, path: &str, bytes: &[u8]) -> Result<(), WriteError>
-        ensures leaves { WriteLeaves (Some self.old.contents) (Some self.new.contents) path.now bytes.now result }
-        ensures cause { HasWriteCause self.old.write_faults self.new.write_faults result }
-        ensures reads { self.new.read_faults ≡ self.old.read_faults }
-        // It fails exactly where the call is listed, and leaves what the entry says.
+        ensures writes { WritesFile (memory_files self.old) (memory_files self.new) path.now bytes.now result }
+        // It fails exactly where the call is listed and there is memory, and leaves what the entry says.
         ensures listed { WritesListed self.old self.new.contents path.now bytes.now result }
-        ensures after { self.new ≡ after_write self.old self.new.contents }
+        ensures after { self.new ≡ after_write self.old self.new.contents result }
     {
         let call = self.calls;
         self.calls = call.saturating_add(1);
@@ -161,10 +164,12 @@ impl Files for MemFiles {
                 Err(_) => Err(WriteError::OutOfMemory),
             };
         };
-        self.write_faults = self.write_faults.saturating_add(1);
         let kept = kept.min(bytes.len());
         match put(alloc, &mut self.files, path, &bytes[..kept]) {
-            Ok(()) => Err(WriteError::Failed),
+            Ok(()) => {
+                self.write_faults = self.write_faults.saturating_add(1);
+                Err(WriteError::Failed)
+            }
             Err(_) => Err(WriteError::OutOfMemory),
         }
     }

@@ -63,10 +63,10 @@ fn is_failing(fails: &[u64], call: u64) -> bool
     fails.contains(&call)
 }
 
-// Copies as much of the front of `from` as fits to the front of `to`, and answers how much.
-fn copy_front(from: &[u8], to: &mut [u8]) -> usize
+// Copies as much of `from` as fits to the start of `to`, and answers how much.
+fn copy_prefix(from: &[u8], to: &mut [u8]) -> usize
     ensures count { result ≡ min (length to.old) (length from.now) }
-    ensures front { take result to.new ≡ take result from.now }
+    ensures prefix { take result to.new ≡ take result from.now }
 {
     let count = to.len().min(from.len());
     to[..count].copy_from_slice(&from[..count]);
@@ -74,11 +74,9 @@ fn copy_front(from: &[u8], to: &mut [u8]) -> usize
 }
 
 impl Source for MemSource {
-    ghost use Rattle.std.specs.Prelude.{Some};
+    ghost use Rattle.glk_io.specs.Memory.{memory_source};
 
-    ghost left = { λ s. Some s.left };
-
-    ghost fault_count = { λ s. s.faults };
+    ghost state = { λ s. memory_source s };
 
     fn faults(&self) -> u64
         ensures count { result ≡ self.now.faults }
@@ -99,13 +97,13 @@ impl Source for MemSource {
             self.faults = self.faults.saturating_add(1);
             return Err(Failed);
         }
-        let count = copy_front(&self.bytes[self.at..], buf);
+        let count = copy_prefix(&self.bytes[self.at..], buf);
         self.at += count;
         Ok(count)
     }
 }
 
-/// A sink in memory with room for so many bytes, some of whose writes fail. Contracts see the bytes
+/// A sink in memory with room for a given number of bytes, some of whose writes fail. Contracts see the bytes
 /// that it holds, its room, the writes that fail, and how many writes and faults there were.
 #[derive(Drop)]
 pub struct MemSink {
@@ -174,11 +172,9 @@ fn is_full(room: usize, piece: &[u8]) -> bool
 }
 
 impl Sink for MemSink {
-    ghost use Rattle.std.specs.Prelude.{Some};
+    ghost use Rattle.glk_io.specs.Memory.{memory_sink};
 
-    ghost held = { λ s. Some s.held };
-
-    ghost fault_count = { λ s. s.faults };
+    ghost state = { λ s. memory_sink s };
 
     fn faults(&self) -> u64 {
         self.faults
@@ -191,7 +187,8 @@ impl Sink for MemSink {
         ensures cause { HasCause self.old.faults self.new.faults result }
         ensures listed { TakesListed self.old self.new piece.now result }
         // Where there is room it fails only where it is listed: it takes no memory.
-        ensures room { is_listed self.old.fails self.old.calls ≡ false → length self.old.held < self.old.room → IsOk result }
+        ensures room { is_listed self.old.fails self.old.calls ≡ false
+            → length self.old.held < self.old.room → IsOk result }
     {
         let call = self.calls;
         self.calls = call.saturating_add(1);

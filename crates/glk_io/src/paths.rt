@@ -6,7 +6,7 @@ ghost use Rattle.glk_io.specs.Paths.{FoundAt, IsOnce};
 use glk_base::{OutOfMemory, StrText, Text};
 use std::alloc::Global;
 
-// Where the path stands.
+// The index of the path.
 pub fn index_of(files: &[(StrText, Text)], path: &str) -> Option<usize>
     ensures { MatchOption result (file_in files.now path.now ≡ None) (FoundAt files.now path.now) }
 {
@@ -18,7 +18,7 @@ pub fn index_of(files: &[(StrText, Text)], path: &str) -> Option<usize>
     None
 }
 
-// Makes the bytes the file at the path: in place of the one that stands there, else at the end.
+// Makes the bytes the file at the path: in place of the one that is there, else at the end.
 pub fn put(
     alloc: Global,
     files: &mut Vec<(StrText, Text)>,

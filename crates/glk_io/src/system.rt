@@ -1,10 +1,10 @@
 // The system's files, readers and writers.
-ghost use Rattle.std.specs.Prelude.{◌≡◌, ◌≤◌, ◌<◌, List, ℕ, None, IfSome, IfOk, length};
+ghost use Rattle.std.specs.Prelude.{◌≡◌, ◌≤◌, ◌<◌, List, ℕ, None, IfSome, IfOk, OnOk, length};
 ghost use Rattle.std.specs.Io.{ReadsAtMost, WritesAtMost};
-ghost use Rattle.std.specs.Io.KnownBytes.{ReadConsumes, WriteAppends};
-ghost use Rattle.glk_io.specs.Contents.{Stays};
+ghost use Rattle.std.specs.Io.KnownBytes.{Appends, ReadConsumes, WriteAppends};
+ghost use Rattle.glk_io.specs.System.{unknown_files};
 ghost use Rattle.glk_io.specs.Counts.{count_after_call};
-ghost use Rattle.glk_io.specs.Files.{ReadTells, ReadsUpTo, HasReadCause, WriteLeaves, HasWriteCause, count_after_read};
+ghost use Rattle.glk_io.specs.Files.{ReadsFile, WritesFile, ReadsUpTo, count_after_read, count_after_write};
 ghost use Rattle.glk_io.specs.Streams.{HasCause};
 
 use super::files::{Files, ReadError, WriteError};
@@ -16,7 +16,7 @@ use std::os::unix::fs::{MetadataExt, OpenOptionsExt, PermissionsExt};
 use std::rt::Files as SystemFiles;
 use std::{fs, io};
 
-/// A reader of std. It tells what the reader tells, which is nothing for the system's own.
+/// A reader of std. What is left is known where the reader knows it, which the system's own do not.
 #[derive(Drop)]
 pub struct OsSource<R> {
     inner: R,
@@ -26,17 +26,15 @@ pub struct OsSource<R> {
 impl<R: Read> OsSource<R> {
     /// A source over this reader, without a fault.
     pub fn new(inner: R) -> OsSource<R>
-        ensures left { ⟦<OsSource<R> as Source>⟧.left result ≡ R.remaining inner }
-        ensures count { ⟦<OsSource<R> as Source>⟧.fault_count result ≡ 0 }
+        ensures { ⟦<OsSource<R> as Source>⟧.state result
+            ≡ record { left = R.remaining inner; faults = 0 } }
     {
         OsSource { inner, faults: 0 }
     }
 }
 
 impl<R: Read> Source for OsSource<R> {
-    ghost left = { λ s. R.remaining s.inner };
-
-    ghost fault_count = { λ s. s.faults };
+    ghost state = { λ s. record { left = R.remaining s.inner; faults = s.faults } };
 
     fn faults(&self) -> u64 {
         self.faults
@@ -44,7 +42,8 @@ impl<R: Read> Source for OsSource<R> {
 
     fn read(&mut self, buf: &mut [u8]) -> Result<usize, Failed>
         ensures bound { ReadsAtMost result buf.new }
-        ensures bytes { ReadConsumes (R.remaining self.old.inner) (R.remaining self.new.inner) result buf.new }
+        ensures bytes { ReadConsumes (R.remaining self.old.inner) (R.remaining self.new.inner)
+            result buf.new }
         ensures cause { HasCause self.old.faults self.new.faults result }
         ensures count { self.new.faults ≡ count_after_call self.old.faults result }
     {
@@ -58,7 +57,7 @@ impl<R: Read> Source for OsSource<R> {
     }
 }
 
-/// A writer of std. It tells what the writer tells, which is nothing for the system's own.
+/// A writer of std. What it holds is known where the writer knows it, which the system's own do not.
 #[derive(Drop)]
 pub struct OsSink<W> {
     inner: W,
@@ -68,17 +67,15 @@ pub struct OsSink<W> {
 impl<W: Write> OsSink<W> {
     /// A sink over this writer, without a fault.
     pub fn new(inner: W) -> OsSink<W>
-        ensures held { ⟦<OsSink<W> as Sink>⟧.held result ≡ W.contents inner }
-        ensures count { ⟦<OsSink<W> as Sink>⟧.fault_count result ≡ 0 }
+        ensures { ⟦<OsSink<W> as Sink>⟧.state result
+            ≡ record { held = W.contents inner; faults = 0 } }
     {
         OsSink { inner, faults: 0 }
     }
 }
 
 impl<W: Write> Sink for OsSink<W> {
-    ghost held = { λ s. W.contents s.inner };
-
-    ghost fault_count = { λ s. s.faults };
+    ghost state = { λ s. record { held = W.contents s.inner; faults = s.faults } };
 
     fn faults(&self) -> u64 {
         self.faults
@@ -87,7 +84,8 @@ impl<W: Write> Sink for OsSink<W> {
     fn write(&mut self, piece: &[u8]) -> Result<usize, Failed>
         ensures bound { WritesAtMost result piece.now }
         ensures some { 0 < length piece.now → IfOk result (λ taken. 0 < taken) }
-        ensures bytes { WriteAppends (W.contents self.old.inner) (W.contents self.new.inner) result piece.now }
+        ensures bytes { WriteAppends (W.contents self.old.inner) (W.contents self.new.inner)
+            result piece.now }
         ensures cause { HasCause self.old.faults self.new.faults result }
         ensures count { self.new.faults ≡ count_after_call self.old.faults result }
     {
@@ -123,46 +121,53 @@ impl Output {
     }
 }
 
-/// The files of the system. They tell no contents.
+// How often reads and writes have failed.
+#[derive(Clone, Copy, Debug)]
+struct FaultCounts {
+    reads: u64,
+    writes: u64,
+}
+
+const NO_FAULTS: FaultCounts = FaultCounts {
+    reads: 0,
+    writes: 0,
+};
+
+/// The files of the system. Their contents are not known.
 #[derive(Drop)]
 pub struct OsFiles<'a, R: SystemFiles> {
     rt: &'a R,
     output: Output,
-    read_faults: u64,
-    write_faults: u64,
+    faults: FaultCounts,
 }
 
 impl<'a, R: SystemFiles> OsFiles<'a, R> {
     /// The files of the system, without a fault. A file that it makes is plain data.
     pub fn new(rt: &'a R) -> OsFiles<'a, R>
-        ensures contents { ⟦<OsFiles<'a, R> as Files>⟧.contents result ≡ None }
-        ensures reads { ⟦<OsFiles<'a, R> as Files>⟧.read_count result ≡ 0 }
-        ensures writes { ⟦<OsFiles<'a, R> as Files>⟧.write_count result ≡ 0 }
+        ensures { ⟦<OsFiles<'a, R> as Files>⟧.state result
+            ≡ record { contents = None; reads = 0; writes = 0 } }
     {
         OsFiles {
             rt,
             output: Output::Plain,
-            read_faults: 0,
-            write_faults: 0,
+            faults: NO_FAULTS,
         }
     }
 
     /// As `new`, but each file that it writes can be run as a program by those who can read it.
     pub fn for_programs(rt: &'a R) -> OsFiles<'a, R>
-        ensures contents { ⟦<OsFiles<'a, R> as Files>⟧.contents result ≡ None }
-        ensures reads { ⟦<OsFiles<'a, R> as Files>⟧.read_count result ≡ 0 }
-        ensures writes { ⟦<OsFiles<'a, R> as Files>⟧.write_count result ≡ 0 }
+        ensures { ⟦<OsFiles<'a, R> as Files>⟧.state result
+            ≡ record { contents = None; reads = 0; writes = 0 } }
     {
         OsFiles {
             rt,
             output: Output::Program,
-            read_faults: 0,
-            write_faults: 0,
+            faults: NO_FAULTS,
         }
     }
 }
 
-// Who may read a file. Two bits lower stands who may run it.
+// Who may read a file. Who may run it is two bits lower.
 const READ_BITS: u32 = 0o444;
 
 const READ_TO_RUN: u32 = 2;
@@ -177,14 +182,21 @@ fn let_run<F: OpenFile>(file: &F) -> io::Result<()> {
     file.set_permissions(fs::Permissions::from_mode(mode))
 }
 
-// Makes the bytes the file at the path. A file that stands there keeps its permissions, so a program
+// Writes the bytes whole.
+fn write_whole<W: Write>(writer: &mut W, bytes: &[u8]) -> io::Result<()>
+    ensures { OnOk result (Appends (W.contents writer.old) (W.contents writer.new) bytes.now) }
+{
+    writer.write_all(bytes)
+}
+
+// Makes the bytes the file at the path. A file that is there keeps its permissions, so a program
 // needs more than the mode at opening.
 fn write_bytes<R: SystemFiles>(rt: &R, path: &str, bytes: &[u8], output: Output) -> io::Result<()> {
     let mut options = OpenOptions::new();
     options.write(true).create(true).truncate(true);
     options.mode(output.mode());
     let mut file = options.open(rt, path)?;
-    file.write_all(bytes)?;
+    write_whole(&mut file, bytes)?;
     if output == Output::Program {
         let_run(&file)?;
     }
@@ -199,9 +211,9 @@ fn read_up_to<S: Read + Drop>(
     max: u64,
 ) -> Result<Vec<u8>, ReadError>
     ensures short { IfOk result (λ bytes. length bytes.items ≤ max) }
-    ensures told { ReadsUpTo (S.remaining file) max result }
+    ensures whole { ReadsUpTo (S.remaining file) max result }
 {
-    // One byte past the limit tells that the file is longer.
+    // One byte past the limit shows that the file is longer.
     let limit = max.saturating_add(1);
     let Ok(mut bytes) = Vec::with_capacity(alloc, size.saturating_add(1).min(limit) as usize) else {
         return Err(ReadError::OutOfMemory);
@@ -215,29 +227,23 @@ fn read_up_to<S: Read + Drop>(
 }
 
 impl<'a, R: SystemFiles> Files for OsFiles<'a, R> {
-    ghost use Rattle.std.specs.Prelude.{None};
+    ghost use Rattle.glk_io.specs.System.{unknown_files};
 
-    ghost contents = { λ _. None };
-
-    ghost read_count = { λ f. f.read_faults };
-
-    ghost write_count = { λ f. f.write_faults };
+    ghost state = { λ f. unknown_files f.faults };
 
     fn read_faults(&self) -> u64 {
-        self.read_faults
+        self.faults.reads
     }
 
     fn write_faults(&self) -> u64 {
-        self.write_faults
+        self.faults.writes
     }
 
     fn read_file(&mut self, alloc: Global, path: &str, max: u64) -> Result<Vec<u8>, ReadError>
         ensures short { IfOk result (λ bytes. length bytes.items ≤ max) }
-        ensures told { ReadTells None path.now max result }
-        ensures stays { Stays None None }
-        ensures cause { HasReadCause self.old.read_faults self.new.read_faults result }
-        ensures writes { self.new.write_faults ≡ self.old.write_faults }
-        ensures count { self.new.read_faults ≡ count_after_read self.old.read_faults result }
+        ensures reads { ReadsFile (unknown_files self.old.faults) (unknown_files self.new.faults)
+            path.now max result }
+        ensures count { self.new.faults.reads ≡ count_after_read self.old.faults.reads result }
     {
         let read = match fs::open(self.rt, path) {
             Err(e) if e.kind() == ErrorKind::NotFound => return Err(ReadError::Absent),
@@ -248,21 +254,20 @@ impl<'a, R: SystemFiles> Files for OsFiles<'a, R> {
             }
         };
         if let Err(ReadError::Failed) = read {
-            self.read_faults = self.read_faults.saturating_add(1);
+            self.faults.reads = self.faults.reads.saturating_add(1);
         }
         read
     }
 
     fn write_file(&mut self, _alloc: Global, path: &str, bytes: &[u8]) -> Result<(), WriteError>
-        ensures leaves { WriteLeaves None None path.now bytes.now result }
-        ensures cause { HasWriteCause self.old.write_faults self.new.write_faults result }
-        ensures reads { self.new.read_faults ≡ self.old.read_faults }
-        ensures count { self.new.write_faults ≡ count_after_call self.old.write_faults result }
+        ensures writes { WritesFile (unknown_files self.old.faults) (unknown_files self.new.faults)
+            path.now bytes.now result }
+        ensures count { self.new.faults.writes ≡ count_after_write self.old.faults.writes result }
     {
         match write_bytes(self.rt, path, bytes, self.output) {
             Ok(()) => Ok(()),
             Err(_) => {
-                self.write_faults = self.write_faults.saturating_add(1);
+                self.faults.writes = self.faults.writes.saturating_add(1);
                 Err(WriteError::Failed)
             }
         }

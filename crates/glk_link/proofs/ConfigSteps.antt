@@ -1,38 +1,65 @@
--- What the read of a configuration says.
-use Rattle.std.proofs.Common.{◌≡◌, ◌^◌, ℕ, List, Option, Some, None, Ok, Err, subst, sym}
-use Rattle.std.specs.Prelude.{Vec, length}
-use Rattle.std.specs.declared.alloc.Global.{Global}
-use Rattle.glk_base.specs.declared.cause.Cause.TheVariants as cause
-use Rattle.glk_base.specs.Lines.{lines, AllGood, IsFirstBad}
-use Rattle.glk_io.specs.Contents.{Contents, WhereTold}
-use Rattle.glk_io.specs.Files.{ReadTells}
-use Rattle.glk_io.specs.declared.files.ReadError.TheVariants as read
-use Rattle.glk_arena.specs.Config.{IsGoodLine, IsLastFile}
-use Rattle.glk_link.specs.First.{Listing, config_limit, absent, long, bad, good, IsConfigured}
+-- The configuration: its file is read, and then its lines.
+use Rattle.std.proofs.Common.{◌≡◌, List, ℕ, Option, Some, Ok, Err, refl, sym, subst}
+use Rattle.std.specs.Prelude.{Result}
+use Rattle.glk_cause.specs.declared.cause.Cause.{Cause}
+use Rattle.glk_base.specs.declared.fault.Fault.{Fault}
+use Rattle.glk_io.specs.Contents.{IfKnown}
+use Rattle.glk_io.specs.Changes.{FileState, FilesUnchanged}
+use Rattle.glk_cause.specs.Sorts.{Sort, by_reads, by_writes, of_file, of_package, of_input, of_config, of_options, of_link, foreign, sort_of}
+use Rattle.glk_cause.specs.Chain.{goes_on, stops, Answers}
+use Rattle.glk_cause.specs.Reading.{AnswersByReading, IsOfPath, IsWhole}
+use Rattle.glk_cause.proofs.ReadingLaws.{always, always_known, IsPure, reading_stopped, reading_ends}
+use Rattle.glk_arena.specs.declared.config.Config.{Config}
+use Rattle.glk_arena.specs.ConfigViews.{file_in}
+use Rattle.glk_link.specs.Config.{Listing, config_limit, Parses, bad, good, IsConfigured, IsOfConfig}
 
-pub config_absent : (before : Option Contents) (main path : List ℕ) → path ≡ main → ReadTells before main (2 ^ 24) (Err read.Absent)
-    → WhereTold before (λ files. IsConfigured files (Some main) (Err (cause.Absent path)))
-config_absent None main path e h = tt
-config_absent (Some files) main path e h = subst (λ (p : List ℕ). IsConfigured files (Some main) (Err (cause.Absent p))) (sym e) (absent h)
+config_only : (path : List ℕ) (s : Sort) → IsOfPath path s → IsOfConfig (Some path) s
+config_only path (by_reads named count) h = let same : named ≡ path = h in cc
+config_only path (by_writes named count) h = absurd h
+config_only path (of_file named) h = let same : named ≡ path = h in cc
+config_only path (of_package named) h = absurd h
+config_only path (of_input named) h = absurd h
+config_only path (of_config named) h = absurd h
+config_only path of_options h = absurd h
+config_only path of_link h = absurd h
+config_only path foreign h = absurd h
 
-pub config_long : (before : Option Contents) (main path : List ℕ) → path ≡ main → ReadTells before main (2 ^ 24) (Err read.TooLong)
-    → WhereTold before (λ files. IsConfigured files (Some main) (Err (cause.FileTooLong path config_limit)))
-config_long None main path e h = tt
-config_long (Some files) main path e h = subst (λ (p : List ℕ). IsConfigured files (Some main) (Err (cause.FileTooLong p config_limit))) (sym e) (long h.0 h.1 h.2)
+-- the file was not read
+pub not_read : (old new : FileState) (config : Option (List ℕ)) (path seen : List ℕ) → config ≡ Some path → seen ≡ path → (e : Fault Cause)
+    → AnswersByReading {C = List ℕ} old new (IsOfPath seen) (IsWhole seen config_limit config_limit) (λ text. text) (Err e)
+    → AnswersByReading {C = Config} old new (IsOfConfig config) (λ held. IsConfigured held config) file_in (Err e)
+not_read old new config path seen given same e h =
+    let P : Option (List ℕ) → Type 0 = λ o. AnswersByReading {C = Config} old new (IsOfConfig o) (λ held. IsConfigured held o) file_in (Err e) in
+    let Q : List ℕ → Type 0 = λ p. AnswersByReading {C = List ℕ} old new (IsOfPath p) (IsWhole p config_limit config_limit) (λ text. text) (Err e) in
+    subst P (sym given)
+    (reading_stopped old new (IsOfPath path) (IsOfConfig (Some path)) (IsWhole path config_limit config_limit) (λ held. IsConfigured held (Some path)) (λ (t : List ℕ). t) file_in
+    (config_only path) (always old.contents (λ held refusal is. stops refusal is)) e (subst Q same h))
 
-pub config_bad : (before : Option Contents) (main path seen : List ℕ) (text : Vec ℕ Global) (number : ℕ) → path ≡ main → seen ≡ text.items → ReadTells before main (2 ^ 24) (Ok text)
-    → IsFirstBad (lines seen) (IsGoodLine (lines seen)) number → WhereTold before (λ files. IsConfigured files (Some main) (Err (cause.ConfigBad path number)))
-config_bad None main path seen text number e same h f = tt
-config_bad (Some files) main path seen text number e same h f =
-    let P : List ℕ → Type 0 = λ t. IsFirstBad (lines t) (IsGoodLine (lines t)) number in
-    subst (λ (p : List ℕ). IsConfigured files (Some main) (Err (cause.ConfigBad p number))) (sym e)
-    (bad text.items (record { there = h.0; short = h.1 }) number (subst P same f))
+-- a bad line is one of the configuration
+bad_line : (path text : List ℕ) (refusal : Cause) → Parses path text (Err refusal) → IsOfConfig (Some path) (sort_of refusal) × IsPure (sort_of refusal)
+bad_line path text refusal h = go (Err refusal) h refl
+  where
+    go : (answer : Result Listing Cause) → Parses path text answer → answer ≡ Err refusal → IsOfConfig (Some path) (sort_of refusal) × IsPure (sort_of refusal)
+    go answer (bad n first) e = subst (λ (c : Cause). IsOfConfig (Some path) (sort_of c) × IsPure (sort_of c)) (same _ e) (refl, tt)
+      where
+        same : (c : Cause) → (let r : Result Listing Cause = Err c in r) ≡ Err refusal → c ≡ refusal
+        same c e = cc
+    go answer (good listed all is) e = absurd (clash listed e)
+      where
+        clash : (l : Listing) → (let r : Result Listing Cause = Ok l in r) ≡ Err refusal → ⊥
+        clash l e = cc
 
-pub config_good : (before : Option Contents) (main seen : List ℕ) (text : Vec ℕ Global) (listed : Listing) → seen ≡ text.items → ReadTells before main (2 ^ 24) (Ok text)
-    → AllGood (lines seen) (IsGoodLine (lines seen)) → ((named : List ℕ) → IsLastFile (lines seen) (length (lines seen)) named (listed named))
-    → WhereTold before (λ files. IsConfigured files (Some main) (Ok listed))
-config_good None main seen text listed same h all files_are = tt
-config_good (Some files) main seen text listed same h all files_are =
-    let P : List ℕ → Type 0 = λ t. AllGood (lines t) (IsGoodLine (lines t)) in
-    let Q : List ℕ → Type 0 = λ t. (named : List ℕ) → IsLastFile (lines t) (length (lines t)) named (listed named) in
-    good text.items (record { there = h.0; short = h.1 }) (subst P same all) listed (subst Q same files_are)
+-- the file was read, and its lines say this
+pub parsed : (old new : FileState) (config : Option (List ℕ)) (path seen named : List ℕ) → config ≡ Some path → seen ≡ path → named ≡ path
+    → (text bytes : List ℕ) → bytes ≡ text
+    → AnswersByReading {C = List ℕ} old new (IsOfPath seen) (IsWhole seen config_limit config_limit) (λ t. t) (Ok text)
+    → (r : Result Config (Fault Cause)) → Answers (Parses named bytes) file_in r
+    → AnswersByReading old new (IsOfConfig config) (λ held. IsConfigured held config) file_in r
+parsed old new config path seen named given same too text bytes is h r answers =
+    let P : Option (List ℕ) → Type 0 = λ o. AnswersByReading old new (IsOfConfig o) (λ held. IsConfigured held o) file_in r in
+    let Q : List ℕ → Type 0 = λ p. IfKnown old.contents (λ held. IsWhole p config_limit config_limit held (Ok text)) in
+    let R : List ℕ → Type 0 = λ p. Answers (Parses p bytes) file_in r in
+    let T : List ℕ → Type 0 = λ t. Answers (Parses path t) file_in r in
+    subst P (sym given)
+    (reading_ends old new (IsOfConfig (Some path)) (Parses path text) (λ held. IsConfigured held (Some path)) file_in h.0 (bad_line path text)
+    (always_known _ _ old.contents (λ held read answer p. goes_on text answer read p) (subst Q same h.1)) r (subst T is (subst R too answers)))

@@ -1,11 +1,11 @@
 -- The image is the only one.
-use Rattle.std.proofs.Common.{◌≡◌, ◌<◌, ◌≤◌, ℕ, List, [], length, inl, inr, Some, sym, ap, ◌∙◌, subst, arith}
+use Rattle.std.proofs.Common.{◌≡◌, ◌<◌, ◌≤◌, ℕ, List, [], All, length, inl, inr, Some, sym, ap, ◌∙◌, subst, arith}
 use Rattle.std.proofs.lemmas.Bool.{cases_lt, cases_eq}
 use Rattle.std.proofs.lemmas.List.{nil_from_length}
 use Rattle.glk_elf.specs.Image.{Parts, section, elf_bytes}
 use Rattle.glk_elf.specs.Placing.{IsPlaced, text_start}
 use Rattle.glk_elf.specs.Sections.{text, written_data, tbss}
-use Rattle.glk_elf.proofs.PlacingLemmas.{placed_once}
+use Rattle.glk_elf.proofs.ImageOnce.{image_once}
 use Rattle.glk_link.specs.Plain.{IsPlain, IsNamesake}
 use Rattle.glk_link.specs.Reach.{IsReached, AreKept}
 use Rattle.glk_link.specs.Built.{IsBuilt}
@@ -25,7 +25,7 @@ kept_once world entry xs ys x y =
     (λ i c. y.whole i (each (IsReached world entry) xs x.sound i c))
     (λ i c. x.whole i (each (IsReached world entry) ys y.sound i c))
 
--- where the image starts
+-- the row at which the image starts
 pub start_once : (world : List Package) (entry : List ℕ) (i j : ℕ) → IsPlain world → IsStart world entry i → IsStart world entry j → i ≡ j
 start_once world entry i j plain x y =
     elim (cases_lt i j) [
@@ -43,10 +43,10 @@ start_once world entry i j plain x y =
     }
 
 -- what the kept definitions call has an address
-pub kept_whole : (world : List Package) (entry kept addrs : List ℕ) → AreKept world entry kept → AreAt world text_start kept addrs
-    → ((i : ℕ) → IsReached world entry i → IsBuilt world i) → AreWhole world (address_of kept addrs) kept
+kept_whole : (world : List Package) (entry kept addrs : List ℕ) → AreKept world entry kept → AreAt world text_start kept addrs
+    → All (IsBuilt world) kept → AreWhole world (address_of kept addrs) kept
 kept_whole world entry kept addrs k at built = record {
-  built = λ i c. built i (each (IsReached world entry) kept k.sound i c);
+  built = each (IsBuilt world) kept built;
   targets = λ i c j t calls.
       address_some world text_start kept addrs t at
       (k.whole t (IsReached-callee i j t (each (IsReached world entry) kept k.sound i c) calls));
@@ -57,10 +57,10 @@ no_bytes : (p : Parts) (bytes : List ℕ) → IsPlaced p → HasTextAlone p byte
 no_bytes p bytes placed alone n low high =
     nil_from_length (section p n).bytes (placed.backed n (omega (arith, low)) high ∙ alone.empty n low (omega (arith, high)))
 
--- the parts of an image with the same text and entry
-pub parts_once : (p q : Parts) (xs ys : List ℕ) → IsPlaced p → IsPlaced q → HasTextAlone p xs → HasTextAlone q ys → xs ≡ ys → p.entry ≡ q.entry → p ≡ q
+-- the image of parts with the same text and entry
+pub parts_once : (p q : Parts) (xs ys : List ℕ) → IsPlaced p → IsPlaced q → HasTextAlone p xs → HasTextAlone q ys → xs ≡ ys → p.entry ≡ q.entry → elf_bytes p ≡ elf_bytes q
 parts_once p q xs ys x y a b same entry =
-    placed_once p q x y entry (a.no_rows ∙ sym b.no_rows) sizes bytes
+    image_once p q x y entry (a.no_rows ∙ sym b.no_rows) sizes bytes
   where
     code : (section p text).bytes ≡ (section q text).bytes
     code = a.code ∙ same ∙ sym b.code
@@ -80,21 +80,18 @@ parts_once p q xs ys x y a b same entry =
       | inr ne ↦ no_bytes p xs x a n (omega (arith, low, ne)) high ∙ sym (no_bytes q ys y b n (omega (arith, low, ne)) high)
     ]
 
--- the image of a world
-pub image_of_once : (world : List Package) (entry a b : List ℕ) → IsPlain world → ((i : ℕ) → IsReached world entry i → IsBuilt world i)
-    → IsImageOf world entry a → IsImageOf world entry b → a ≡ b
-image_of_once world entry a b plain built x y =
-    let kept : y.kept ≡ x.kept = kept_once world entry y.kept x.kept y.are_kept x.are_kept in
-    let at_y : AreAt world text_start x.kept y.addrs = rw kept at y.are_at in
-    let addrs : y.addrs ≡ x.addrs = at_once world text_start x.kept y.addrs x.addrs at_y x.are_at in
-    let text_y : IsTextFrom world (address_of x.kept x.addrs) text_start x.kept x.addrs y.bytes = rw (kept, addrs) at y.is_text in
-    let bytes : x.bytes ≡ y.bytes = text_once world (address_of x.kept x.addrs) text_start x.kept x.addrs x.bytes y.bytes
-    (kept_whole world entry x.kept x.addrs x.are_kept x.are_at built) x.is_text text_y in
-    let start : y.start ≡ x.start = start_once world entry y.start x.start plain y.is_start x.is_start in
-    let starts_y : address_of x.kept x.addrs x.start ≡ Some y.parts.entry = rw (kept, addrs, start) at y.starts in
+-- the image of what is kept
+pub image_of_once : (world : List Package) (entry kept : List ℕ) (start : ℕ) (a b : List ℕ) → AreKept world entry kept → All (IsBuilt world) kept
+    → IsImageOf world kept start a → IsImageOf world kept start b → a ≡ b
+image_of_once world entry kept start a b are built x y =
+    let addrs : y.addrs ≡ x.addrs = at_once world text_start kept y.addrs x.addrs y.are_at x.are_at in
+    let text_y : IsTextFrom world (address_of kept x.addrs) text_start kept x.addrs y.bytes = rw addrs at y.is_text in
+    let bytes : x.bytes ≡ y.bytes = text_once world (address_of kept x.addrs) text_start kept x.addrs x.bytes y.bytes
+    (kept_whole world entry kept x.addrs are x.are_at built) x.is_text text_y in
+    let starts_y : address_of kept x.addrs start ≡ Some y.parts.entry = rw addrs at y.starts in
     let entry_is : x.parts.entry ≡ y.parts.entry = some_once _ _ (sym x.starts ∙ starts_y) in
-    let parts : x.parts ≡ y.parts = parts_once x.parts y.parts x.bytes y.bytes x.placed y.placed x.sections y.sections bytes entry_is in
-    x.joined ∙ ap (λ p. elf_bytes p) parts ∙ sym y.joined
+    let image : elf_bytes x.parts ≡ elf_bytes y.parts = parts_once x.parts y.parts x.bytes y.bytes x.placed y.placed x.sections y.sections bytes entry_is in
+    x.joined ∙ image ∙ sym y.joined
   where
     some_once : (m n : ℕ) → Some m ≡ Some n → m ≡ n
     some_once m n e = cc

@@ -1,4 +1,4 @@
--- Tables of numbers: the kinds by their places and their names, and what a table tells after some lines.
+-- Tables of numbers: the kinds by their indices and their names, and what a table has after some lines.
 use Rattle.std.proofs.Common.{◌≡◌, ◌<◌, ◌^◌, ◌∙◌, ℕ, zero, suc, Bool, true, false, List, [], ◌∷◌, drop, refl, ap, sym, arith, eqb, eq-eqb, cond, Option, Some, None}
 use Rattle.std.specs.List.{find, slice_get}
 use Rattle.std.specs.Str.{bytes_eq}
@@ -9,30 +9,30 @@ use Rattle.std.proofs.lemmas.Option.{slice_get_within}
 use Rattle.glk_obj.specs.declared.kinds.RelocKind.{RelocKind}
 use Rattle.glk_obj.specs.declared.kinds.RelocKind.TheVariants.{Addr, Call, PcRel, AddrOff, MethodOff, TlsLe, UseIface, UseIfaceMethod, UseNamedMethod, UseType, InitOrder, CallInd, Keep, Ignore}
 use Rattle.glk_obj.specs.declared.numbers.Numbers.{Numbers}
-use Rattle.glk_obj.specs.Numbers.{kinds, place_of, name_of, number_in, kind_of, Gives}
+use Rattle.glk_obj.specs.Numbers.{kinds, index_of, name_of, number_in, kind_of, Gives}
 
--- each kind stands at its place
-pub at_place : (kind : RelocKind) → slice_get kinds (place_of kind) ≡ Some kind
-at_place Addr = refl
-at_place Call = refl
-at_place PcRel = refl
-at_place AddrOff = refl
-at_place MethodOff = refl
-at_place TlsLe = refl
-at_place UseIface = refl
-at_place UseIfaceMethod = refl
-at_place UseNamedMethod = refl
-at_place UseType = refl
-at_place InitOrder = refl
-at_place CallInd = refl
-at_place Keep = refl
-at_place Ignore = refl
+-- each kind is at its index
+pub at_index : (kind : RelocKind) → slice_get kinds (index_of kind) ≡ Some kind
+at_index Addr = refl
+at_index Call = refl
+at_index PcRel = refl
+at_index AddrOff = refl
+at_index MethodOff = refl
+at_index TlsLe = refl
+at_index UseIface = refl
+at_index UseIfaceMethod = refl
+at_index UseNamedMethod = refl
+at_index UseType = refl
+at_index InitOrder = refl
+at_index CallInd = refl
+at_index Keep = refl
+at_index Ignore = refl
 
-pub place_small : (kind : RelocKind) → place_of kind < 14
-place_small kind = slice_get_within kinds (place_of kind) kind (at_place kind)
+pub index_small : (kind : RelocKind) → index_of kind < 14
+index_small kind = slice_get_within kinds (index_of kind) kind (at_index kind)
 
-pub place_injective : (a b : RelocKind) → place_of a ≡ place_of b → a ≡ b
-place_injective a b same = let e : Some a ≡ Some b = sym (at_place a) ∙ ap (slice_get kinds) same ∙ at_place b in cc
+pub index_injective : (a b : RelocKind) → index_of a ≡ index_of b → a ≡ b
+index_injective a b same = let e : Some a ≡ Some b = sym (at_index a) ∙ ap (slice_get kinds) same ∙ at_index b in cc
 
 -- a name is that of one kind
 named : List ℕ → Option RelocKind
@@ -94,7 +94,7 @@ find_fails {X} p (y ∷ xs) (suc i) x none at =
       | false ↦ λ found. find_fails p xs i x found at
     ] none
 
--- the kinds from a place on, after one that doesn't pass
+-- the kinds from an index on, after one that doesn't pass
 pub find_past : {X : Type 0} (p : X → Bool) → (xs : List X) (i : ℕ) (x : X) → slice_get xs i ≡ Some x → p x ≡ false → find p (drop i xs) ≡ find p (drop (suc i) xs)
 find_past p [] i x at no_ = cc
 find_past {X} p (y ∷ xs) zero x at no_ = let same : y ≡ x = cc in let fails : p y ≡ false = rw same no_ in rw fails refl
@@ -124,6 +124,6 @@ kind_has table kind (suc n) e =
 
 pub no_kind : (table : Numbers) (kind : RelocKind) (number : ℕ) → 0 < number → kind_of table number ≡ None → number_in table kind ≡ number → ⊥
 no_kind table kind number some none e =
-    let fails : eqb (number_in table kind) number ≡ false = find_fails (λ k. eqb (number_in table k) number) kinds (place_of kind) kind (sym (some_kind table number some) ∙ none) (at_place kind) in
+    let fails : eqb (number_in table kind) number ≡ false = find_fails (λ k. eqb (number_in table k) number) kinds (index_of kind) kind (sym (some_kind table number some) ∙ none) (at_index kind) in
     let passes : eqb (number_in table kind) number ≡ true = eq-eqb _ _ e in
     cc

@@ -1,18 +1,18 @@
--- What a table of numbers tells after some lines of a file, and what the next line does to it.
+-- What a table of numbers has after some lines of a file, and what the next line does to it.
 use Rattle.std.proofs.Common.{◌≡◌, ◌≢◌, ◌+◌, ◌-◌, ◌<◌, ◌^◌, ◌∙◌, ◌⊎◌, ◌↔◌, inl, inr, ℕ, true, false, List, length, min, refl, ap, sym, subst, arith, eqb, eq-eqb, Option, Some, None}
 use Rattle.std.proofs.lemmas.Bool.{false≢true, eqb-true}
 use Rattle.std.proofs.lemmas.List.{get_or-set_same, get_or-set_other}
 use denote.Ref.{Bor}
-use Rattle.glk_base.specs.Lines.{lines, trimmed, is_passed, line_at, IsCut, HasRead, IsFirstBad, AllGood}
+use Rattle.glk_base.specs.Lines.{lines, trimmed_line, is_skipped, line_at, IsCut, HasRead, IsFirstBad, AllGood}
 use Rattle.glk_base.proofs.Cuts.{start_read, next_line, read_good, read_bad, read_whole, read_all}
 use Rattle.glk_obj.specs.declared.kinds.RelocKind.{RelocKind}
 use Rattle.glk_obj.specs.declared.numbers.Numbers.{Numbers}
-use Rattle.glk_obj.specs.Numbers.{place_of, number_in, kind_of, Gives, IsGiven, IsGood}
+use Rattle.glk_obj.specs.Numbers.{index_of, number_in, kind_of, Gives, IsGiven, IsGood}
 use Rattle.glk_obj.specs.NumberSteps.{Takes, Adds, GivesNothing, GivesOldKind, GivesOldNumber}
-use Rattle.glk_obj.proofs.KindNumbers.{place_injective, one_kind, one_number, kind_has, no_kind}
+use Rattle.glk_obj.proofs.KindNumbers.{index_injective, one_kind, one_number, kind_has, no_kind}
 
 -- the table has just the numbers that the first n lines give, and no number twice
-pub record Tells (table : Numbers) (ls : List (List ℕ)) (n : ℕ) : Type 0 where
+pub record HasJust (table : Numbers) (ls : List (List ℕ)) (n : ℕ) : Type 0 where
   pub given : (kind : RelocKind) → 0 < number_in table kind → IsGiven ls n kind (number_in table kind)
   pub has : (kind : RelocKind) (number : ℕ) → IsGiven ls n kind number → number_in table kind ≡ number
   pub apart : (a b : RelocKind) → 0 < number_in table a → number_in table a ≡ number_in table b → a ≡ b
@@ -37,16 +37,16 @@ given_cases ls n kind number g = elim (eqb g.line n) as (λ b. eqb g.line n ≡ 
 ] refl
 
 -- no line is read, and the table is empty
-pub tells_none : (table : Numbers) (ls : List (List ℕ)) → ((kind : RelocKind) → number_in table kind ≡ 0) → Tells table ls 0
-tells_none table ls empty = record {
+pub just_none : (table : Numbers) (ls : List (List ℕ)) → ((kind : RelocKind) → number_in table kind ≡ 0) → HasJust table ls 0
+just_none table ls empty = record {
   given = λ kind some. let e = empty kind in absurd (omega arith);
   has = λ kind number g. let h = g.before in absurd (omega arith);
   apart = λ a b some same. let e = empty a in absurd (omega arith);
 }
 
--- a line is passed over
-pub tells_passed : (table : Numbers) (ls : List (List ℕ)) (n : ℕ) → Tells table ls n → is_passed (line_at ls n) ≡ true → Tells table ls (n + 1)
-tells_passed table ls n t passed = record {
+-- a line is skipped
+pub just_skipped : (table : Numbers) (ls : List (List ℕ)) (n : ℕ) → HasJust table ls n → is_skipped (line_at ls n) ≡ true → HasJust table ls (n + 1)
+just_skipped table ls n t passed = record {
   given = λ kind some. given_more ls n kind _ (t.given kind some);
   has = λ kind number g. elim (given_cases ls n kind number g) [
     | inl before ↦ t.has kind number before
@@ -56,21 +56,21 @@ tells_passed table ls n t passed = record {
 }
 
 -- a kind is the added one, or has the number that it had
-same_or_other : (a b : RelocKind) → (a ≡ b) ⊎ (place_of a ≢ place_of b)
-same_or_other a b = elim (eqb (place_of a) (place_of b)) as (λ t. eqb (place_of a) (place_of b) ≡ t → (a ≡ b) ⊎ (place_of a ≢ place_of b)) [
-  | true ↦ λ e. inl (place_injective a b (eqb-true _ _ e))
+same_or_other : (a b : RelocKind) → (a ≡ b) ⊎ (index_of a ≢ index_of b)
+same_or_other a b = elim (eqb (index_of a) (index_of b)) as (λ t. eqb (index_of a) (index_of b) ≡ t → (a ≡ b) ⊎ (index_of a ≢ index_of b)) [
+  | true ↦ λ e. inl (index_injective a b (eqb-true _ _ e))
   | false ↦ λ e. inr (not_equal _ _ e)
 ] refl
 
 pub added_same : (table : Numbers) (line : List ℕ) (next : Numbers) → (h : Adds table line next) → number_in next h.kind ≡ h.number
-added_same table line next h = rw h.next_is (get_or-set_same table.numbers (place_of h.kind) h.number 0 h.inside)
+added_same table line next h = rw h.next_is (get_or-set_same table.numbers (index_of h.kind) h.number 0 h.inside)
 
-pub added_other : (table : Numbers) (line : List ℕ) (next : Numbers) → (h : Adds table line next) → (kind : RelocKind) → place_of kind ≢ place_of h.kind → number_in next kind ≡ number_in table kind
-added_other table line next h kind other = rw h.next_is (get_or-set_other table.numbers (place_of h.kind) (place_of kind) h.number 0 other)
+pub added_other : (table : Numbers) (line : List ℕ) (next : Numbers) → (h : Adds table line next) → (kind : RelocKind) → index_of kind ≢ index_of h.kind → number_in next kind ≡ number_in table kind
+added_other table line next h kind other = rw h.next_is (get_or-set_other table.numbers (index_of h.kind) (index_of kind) h.number 0 other)
 
 -- a line adds a number
-pub tells_added : (table : Numbers) (ls : List (List ℕ)) (n : ℕ) (next : Numbers) → Tells table ls n → Adds table (line_at ls n) next → Tells next ls (n + 1)
-tells_added table ls n next t h = record {
+pub just_added : (table : Numbers) (ls : List (List ℕ)) (n : ℕ) (next : Numbers) → HasJust table ls n → Adds table (line_at ls n) next → HasJust next ls (n + 1)
+just_added table ls n next t h = record {
   given = λ kind some. elim (same_or_other kind h.kind) [
     | inl same ↦ subst (λ (k : RelocKind). IsGiven ls (n + 1) k (number_in next k)) (sym same) (rw (added_same table (line_at ls n) next h) (given_here ls n h.kind h.number h.gives))
     | inr other ↦
@@ -116,7 +116,7 @@ tells_added table ls n next t h = record {
 }
 
 -- the lines that are taken are good, and those that are refused are not
-pub good_added : (table : Numbers) (ls : List (List ℕ)) (n : ℕ) (next : Numbers) → Tells table ls n → Adds table (line_at ls n) next → IsGood ls n
+pub good_added : (table : Numbers) (ls : List (List ℕ)) (n : ℕ) (next : Numbers) → HasJust table ls n → Adds table (line_at ls n) next → IsGood ls n
 good_added table ls n next t h = inr (
   h.kind,
   h.number,
@@ -137,7 +137,7 @@ bad_nothing ls n h good = elim good [
   | inr new ↦ h.nothing new.0 new.1 new.2.gives
 ]
 
-pub bad_kind : (table : Numbers) (ls : List (List ℕ)) (n : ℕ) → Tells table ls n → GivesOldKind table (line_at ls n) → IsGood ls n → ⊥
+pub bad_kind : (table : Numbers) (ls : List (List ℕ)) (n : ℕ) → HasJust table ls n → GivesOldKind table (line_at ls n) → IsGood ls n → ⊥
 bad_kind table ls n t h good = elim good [
   | inl passed ↦ false≢true (sym h.gives.read ∙ passed)
   | inr new ↦
@@ -147,7 +147,7 @@ bad_kind table ls n t h good = elim good [
       new.2.new_name (number_in table h.kind) (subst (λ (k : RelocKind). IsGiven ls n k (number_in table h.kind)) (sym same) (t.given h.kind some))
 ]
 
-pub bad_number : (table : Numbers) (ls : List (List ℕ)) (n : ℕ) → Tells table ls n → GivesOldNumber table (line_at ls n) → IsGood ls n → ⊥
+pub bad_number : (table : Numbers) (ls : List (List ℕ)) (n : ℕ) → HasJust table ls n → GivesOldNumber table (line_at ls n) → IsGood ls n → ⊥
 bad_number table ls n t h good = elim good [
   | inl passed ↦ false≢true (sym h.gives.read ∙ passed)
   | inr new ↦
@@ -161,18 +161,18 @@ bad_number table ls n t h good = elim good [
 pub record Parsed (ls : List (List ℕ)) (table : Numbers) (rest : Option (Bor (List ℕ))) (number : ℕ) : Type 0 where
   pub read : ℕ
   pub lines_read : HasRead ls (IsGood ls) read rest number
-  pub tells : Tells table ls read
+  pub just : HasJust table ls read
 
 pub parse_start : (text : Bor (List ℕ)) (table : Numbers) → ((kind : RelocKind) → number_in table kind ≡ 0) → Parsed (lines text.now) table (Some text) 1
-parse_start text table empty = record { read = 0; lines_read = start_read text (IsGood (lines text.now)); tells = tells_none table (lines text.now) empty }
+parse_start text table empty = record { read = 0; lines_read = start_read text (IsGood (lines text.now)); just = just_none table (lines text.now) empty }
 
 -- the next line without its blanks
 here : (ls : List (List ℕ)) (n : ℕ) (text : Bor (List ℕ)) (line field : List ℕ) (rest : Option (Bor (List ℕ))) (number : ℕ)
-    → HasRead ls (IsGood ls) n (Some text) number → IsCut text.now line rest → field ≡ trimmed line → field ≡ line_at ls n
-here ls n text line field rest number h c is = is ∙ ap trimmed (sym (next_line ls (IsGood ls) n text line rest number h c).1)
+    → HasRead ls (IsGood ls) n (Some text) number → IsCut text.now line rest → field ≡ trimmed_line line → field ≡ line_at ls n
+here ls n text line field rest number h c is = is ∙ ap trimmed_line (sym (next_line ls (IsGood ls) n text line rest number h c).1)
 
 pub parse_taken : (ls : List (List ℕ)) (table next : Numbers) (text : Bor (List ℕ)) (line field : List ℕ) (rest : Option (Bor (List ℕ))) (number after : ℕ)
-    → Parsed ls table (Some text) number → IsCut text.now line rest → field ≡ trimmed line → Takes table field (Some next) → after ≡ min (number + 1) (2 ^ 32 - 1)
+    → Parsed ls table (Some text) number → IsCut text.now line rest → field ≡ trimmed_line line → Takes table field (Some next) → after ≡ min (number + 1) (2 ^ 32 - 1)
     → Parsed ls next rest after
 parse_taken ls table next text line field rest number after p c is takes after_is =
     let at : field ≡ line_at ls p.read = here ls p.read text line field rest number p.lines_read c is in
@@ -181,32 +181,32 @@ parse_taken ls table next text line field rest number after p c is takes after_i
       | inl passed ↦ record {
         read = p.read + 1;
         lines_read = read_good ls (IsGood ls) p.read text line rest number after p.lines_read c (inl passed.0) after_is;
-        tells = subst (λ (t : Numbers). Tells t ls (p.read + 1)) (sym passed.1) (tells_passed table ls p.read p.tells passed.0);
+        just = subst (λ (t : Numbers). HasJust t ls (p.read + 1)) (sym passed.1) (just_skipped table ls p.read p.just passed.0);
       }
       | inr added ↦ record {
         read = p.read + 1;
-        lines_read = read_good ls (IsGood ls) p.read text line rest number after p.lines_read c (good_added table ls p.read next p.tells added) after_is;
-        tells = tells_added table ls p.read next p.tells added;
+        lines_read = read_good ls (IsGood ls) p.read text line rest number after p.lines_read c (good_added table ls p.read next p.just added) after_is;
+        just = just_added table ls p.read next p.just added;
       }
     ]
 
 pub parse_refused : (ls : List (List ℕ)) (table : Numbers) (text : Bor (List ℕ)) (line field : List ℕ) (rest : Option (Bor (List ℕ))) (number : ℕ)
-    → Parsed ls table (Some text) number → IsCut text.now line rest → field ≡ trimmed line → Takes table field None
+    → Parsed ls table (Some text) number → IsCut text.now line rest → field ≡ trimmed_line line → Takes table field None
     → IsFirstBad ls (IsGood ls) number
 parse_refused ls table text line field rest number p c is takes =
     let at : field ≡ line_at ls p.read = here ls p.read text line field rest number p.lines_read c is in
     let step : Takes table (line_at ls p.read) None = subst (λ (t : List ℕ). Takes table t None) at takes in
     read_bad ls (IsGood ls) p.read text line rest number p.lines_read c (elim step [
       | inl nothing ↦ bad_nothing ls p.read nothing
-      | inr (inl old) ↦ bad_kind table ls p.read p.tells old
-      | inr (inr old) ↦ bad_number table ls p.read p.tells old
+      | inr (inl old) ↦ bad_kind table ls p.read p.just old
+      | inr (inr old) ↦ bad_number table ls p.read p.just old
     ])
 
 pub parse_good : (ls : List (List ℕ)) (table : Numbers) (number : ℕ) → Parsed ls table None number → AllGood ls (IsGood ls)
 parse_good ls table number p = read_all ls (IsGood ls) p.read number p.lines_read
 
 -- the kind of a number that is given
-kind_given : (table : Numbers) (ls : List (List ℕ)) (kind : RelocKind) (number : ℕ) → Tells table ls (length ls) → IsGiven ls (length ls) kind number → kind_of table number ≡ Some kind
+kind_given : (table : Numbers) (ls : List (List ℕ)) (kind : RelocKind) (number : ℕ) → HasJust table ls (length ls) → IsGiven ls (length ls) kind number → kind_of table number ≡ Some kind
 kind_given table ls kind number t g =
     let is : number_in table kind ≡ number = t.has kind number g in
     let low : 0 < number = given_low ls (length ls) kind number g in
@@ -221,7 +221,7 @@ kind_given table ls kind number t g =
 pub parse_kinds : (ls : List (List ℕ)) (table : Numbers) (last : ℕ) → Parsed ls table None last → (kind : RelocKind) (number : ℕ) → (kind_of table number ≡ Some kind) ↔ IsGiven ls (length ls) kind number
 parse_kinds ls table last p kind number =
     let whole : p.read ≡ length ls = read_whole ls (IsGood ls) p.read last p.lines_read in
-    let t : Tells table ls (length ls) = subst (λ (n : ℕ). Tells table ls n) whole p.tells in (
+    let t : HasJust table ls (length ls) = subst (λ (n : ℕ). HasJust table ls n) whole p.just in (
       λ is.
           let has : (0 < number) × (number_in table kind ≡ number) = kind_has table kind number is in
           let some : 0 < number_in table kind = omega (arith, has.0, has.1) in

@@ -8,20 +8,20 @@ use Rattle.glk_base.specs.Bytes.{number_at}
 abbrev pub magic : List ℕ
 magic = 0 ∷ 103 ∷ 111 ∷ 49 ∷ 50 ∷ 48 ∷ 108 ∷ 100 ∷ []
 
-abbrev pub fingerprint_place : ℕ
-fingerprint_place = 8
+abbrev pub fingerprint_offset : ℕ
+fingerprint_offset = 8
 
-abbrev pub flags_place : ℕ
-flags_place = 16
+abbrev pub flags_offset : ℕ
+flags_offset = 16
 
 -- where the header says where block k begins
-abbrev pub header_place : ℕ → ℕ
-header_place k = 20 + 4 * k
+abbrev pub header_offset : ℕ → ℕ
+header_offset k = 20 + 4 * k
 
 abbrev pub header_length : ℕ
 header_length = 96
 
--- The blocks' numbers. They stand in the object in this order.
+-- The blocks' numbers. They are in the object in this order.
 
 abbrev pub autolib : ℕ
 autolib = 0
@@ -111,7 +111,7 @@ aux_width = 9
 abbrev pub ref_name_width : ℕ
 ref_name_width = 16
 
--- By block: autolib, two of names, five of symbols, and so on. Hash stands here with single bytes,
+-- By block: autolib, two of names, five of symbols, and so on. Hash is here with single bytes,
 -- since the width of a long hash is the object's own; so do the data and End.
 abbrev pub widths : List ℕ
 widths =
@@ -126,7 +126,7 @@ width_of k = slice_index widths k
 
 -- where block k begins
 unfoldable pub offset_of : List ℕ → ℕ → ℕ
-offset_of b k = number_at 4 b (header_place k)
+offset_of b k = number_at 4 b (header_offset k)
 
 -- how many bytes block k has
 abbrev pub extent_of : List ℕ → ℕ → ℕ

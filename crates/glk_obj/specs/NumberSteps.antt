@@ -1,9 +1,19 @@
 -- What one line does to a table of numbers.
 use Rattle.std.specs.Prelude.{◌≡◌, ◌≢◌, ◌<◌, ◌⊎◌, ℕ, List, length, Option, None, Some, true, false, slice_set}
-use Rattle.glk_base.specs.Lines.{is_passed}
+use Rattle.glk_base.specs.Lines.{is_skipped}
 use Rattle.glk_obj.specs.declared.kinds.RelocKind.{RelocKind}
 use Rattle.glk_obj.specs.declared.numbers.Numbers.{Numbers}
-use Rattle.glk_obj.specs.Numbers.{Gives, number_in, kind_of, place_of}
+use Rattle.glk_obj.specs.Numbers.{Gives, name_of, number_in, kind_of, index_of}
+
+-- the kind of this name, or none where no kind has it
+abbrev pub IsKindNamed : List ℕ → Option RelocKind → Type 0
+IsKindNamed name None = (kind : RelocKind) → name ≡ name_of kind → ⊥
+IsKindNamed name (Some kind) = name ≡ name_of kind
+
+-- what the line gives, or none where it gives nothing
+abbrev pub IsEntryOf : List ℕ → Option (RelocKind × ℕ) → Type 0
+IsEntryOf line None = (kind : RelocKind) (number : ℕ) → Gives line kind number → ⊥
+IsEntryOf line (Some e) = Gives line e.0 e.1
 
 -- the line gives a kind a number, both are new to the table, and the next table has them too
 pub record Adds (table : Numbers) (line : List ℕ) (next : Numbers) : Type 0 where
@@ -12,12 +22,12 @@ pub record Adds (table : Numbers) (line : List ℕ) (next : Numbers) : Type 0 wh
   pub gives : Gives line kind number
   pub new_kind : number_in table kind ≡ 0
   pub new_number : kind_of table number ≡ None
-  pub inside : place_of kind < length table.numbers
-  pub next_is : next.numbers ≡ slice_set table.numbers (place_of kind) number
+  pub inside : index_of kind < length table.numbers
+  pub next_is : next.numbers ≡ slice_set table.numbers (index_of kind) number
 
--- the line gives no kind a number, though it isn't passed over
+-- the line gives no kind a number, though it isn't skipped
 pub record GivesNothing (line : List ℕ) : Type 0 where
-  pub read : is_passed line ≡ false
+  pub read : is_skipped line ≡ false
   pub nothing : (kind : RelocKind) (number : ℕ) → Gives line kind number → ⊥
 
 -- the table has a number for the kind already
@@ -37,5 +47,5 @@ pub record GivesOldNumber (table : Numbers) (line : List ℕ) : Type 0 where
 
 -- the table after the line, or none where the line is refused
 abbrev pub Takes : Numbers → List ℕ → Option Numbers → Type 0
-Takes table line (Some next) = ((is_passed line ≡ true) × (next ≡ table)) ⊎ Adds table line next
+Takes table line (Some next) = ((is_skipped line ≡ true) × (next ≡ table)) ⊎ Adds table line next
 Takes table line None = GivesNothing line ⊎ (GivesOldKind table line ⊎ GivesOldNumber table line)

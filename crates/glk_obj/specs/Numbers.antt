@@ -1,33 +1,33 @@
 -- The numbers of the kinds of relocations, and the configuration file that lists them.
-use Rattle.std.specs.Prelude.{◌≡◌, ◌<◌, ◌≤◌, ◌==◌, ◌⊎◌, ℕ, List, [], ◌∷◌, slice_index, Option, None, false, IsTrue, if◌then◌else◌, codes}
+use Rattle.std.specs.Prelude.{◌≡◌, ◌<◌, ◌≤◌, ◌==◌, ◌⊎◌, ◌↔◌, ℕ, List, [], ◌∷◌, length, slice_index, Option, None, Some, false, IsTrue, if◌then◌else◌, codes}
 use Rattle.std.specs.Fmt.{decimal}
 use Rattle.std.specs.List.{find}
-use Rattle.glk_base.specs.Lines.{first_word, after_word, is_passed, line_at}
+use Rattle.glk_base.specs.Lines.{first_word, after_word, is_skipped, line_at}
 use Rattle.glk_obj.specs.declared.kinds.RelocKind.{RelocKind}
 use Rattle.glk_obj.specs.declared.kinds.RelocKind.TheVariants.{Addr, Call, PcRel, AddrOff, MethodOff, TlsLe, UseIface, UseIfaceMethod, UseNamedMethod, UseType, InitOrder, CallInd, Keep, Ignore}
 use Rattle.glk_obj.specs.declared.numbers.Numbers.{Numbers}
 
--- the kinds, each at its place
+-- the kinds, each at its index
 abbrev pub kinds : List RelocKind
 kinds =
     Addr ∷ Call ∷ PcRel ∷ AddrOff ∷ MethodOff ∷ TlsLe ∷ UseIface ∷ UseIfaceMethod ∷ UseNamedMethod
     ∷ UseType ∷ InitOrder ∷ CallInd ∷ Keep ∷ Ignore ∷ []
 
-abbrev pub place_of : RelocKind → ℕ
-place_of Addr = 0
-place_of Call = 1
-place_of PcRel = 2
-place_of AddrOff = 3
-place_of MethodOff = 4
-place_of TlsLe = 5
-place_of UseIface = 6
-place_of UseIfaceMethod = 7
-place_of UseNamedMethod = 8
-place_of UseType = 9
-place_of InitOrder = 10
-place_of CallInd = 11
-place_of Keep = 12
-place_of Ignore = 13
+abbrev pub index_of : RelocKind → ℕ
+index_of Addr = 0
+index_of Call = 1
+index_of PcRel = 2
+index_of AddrOff = 3
+index_of MethodOff = 4
+index_of TlsLe = 5
+index_of UseIface = 6
+index_of UseIfaceMethod = 7
+index_of UseNamedMethod = 8
+index_of UseType = 9
+index_of InitOrder = 10
+index_of CallInd = 11
+index_of Keep = 12
+index_of Ignore = 13
 
 -- the numbers where no file lists others
 abbrev pub standard_number : RelocKind → ℕ
@@ -65,7 +65,7 @@ name_of Ignore = codes "IGNORE"
 
 -- The number that a table gives a kind; 0 where it gives none, since numbers are from 1 on.
 abbrev pub number_in : Numbers → RelocKind → ℕ
-number_in table kind = slice_index table.numbers (place_of kind)
+number_in table kind = slice_index table.numbers (index_of kind)
 
 -- the kind to which a table gives the number
 unfoldable pub kind_of : Numbers → ℕ → Option RelocKind
@@ -79,7 +79,7 @@ greatest_number = 32767
 -- A line that gives the kind the number: its name, spaces, and the number in decimal. (Names and
 -- digits are ASCII, so a line that is not UTF-8 gives nothing.)
 pub record Gives (line : List ℕ) (kind : RelocKind) (number : ℕ) : Type 0 where
-  pub read : is_passed line ≡ false
+  pub read : is_skipped line ≡ false
   pub name : first_word line ≡ name_of kind
   pub digits : after_word line ≡ decimal number
   pub low : 1 ≤ number
@@ -97,6 +97,15 @@ pub record GivesNew (ls : List (List ℕ)) (k : ℕ) (kind : RelocKind) (number 
   pub new_name : (n : ℕ) → IsGiven ls k kind n → ⊥
   pub new_number : (other : RelocKind) → IsGiven ls k other number → ⊥
 
--- line k, from 0, is good: it is passed over, or gives a new kind a new number
+-- line k, from 0, is good: it is skipped, or gives a new kind a new number
 abbrev pub IsGood : List (List ℕ) → ℕ → Type 0
-IsGood ls k = IsTrue (is_passed (line_at ls k)) ⊎ ((kind : RelocKind) × (number : ℕ) × GivesNew ls k kind number)
+IsGood ls k = IsTrue (is_skipped (line_at ls k)) ⊎ ((kind : RelocKind) × (number : ℕ) × GivesNew ls k kind number)
+
+-- the table has just the numbers that the kinds have where no file lists others
+abbrev pub IsStandard : Numbers → Type 0
+IsStandard table = (kind : RelocKind) (number : ℕ) → (kind_of table number ≡ Some kind) ↔ (number ≡ standard_number kind)
+
+-- the table has just the numbers that the lines give
+abbrev pub IsListed : List (List ℕ) → Numbers → Type 0
+IsListed ls table =
+    (kind : RelocKind) (number : ℕ) → (kind_of table number ≡ Some kind) ↔ IsGiven ls (length ls) kind number

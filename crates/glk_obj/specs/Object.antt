@@ -1,10 +1,10 @@
 -- What an object is: a list of bytes that breaks none of the rules.
 use Rattle.std.specs.Prelude.{◌≡◌, ◌≤◌, ℕ, List, slice_index}
 use Rattle.glk_obj.specs.Blocks.{offset_of, end}
-use Rattle.glk_obj.specs.Laid.{Laid}
+use Rattle.glk_obj.specs.Layout.{HasLayout}
 use Rattle.glk_base.specs.Least.{Nowhere}
-use Rattle.glk_obj.specs.Positive.{Indexed}
-use Rattle.glk_obj.specs.Rules.{IsShort, HasOtherMagic, HasMisplacedBlock, EndsLate, HasUnevenBlock, IsUnlinkable, HasOddHash64, HasOddHash, HasShortTable, HasBadEntry, HasLongText, HasZeroText, HasWildTarget, HasLongData, HasStrayReloc, HasOddAlign}
+use Rattle.glk_obj.specs.Positive.{HasIndexTables}
+use Rattle.glk_obj.specs.Rules.{IsShort, HasOtherMagic, HasMisplacedBlock, EndsLate, HasUnevenBlock, IsUnlinkable, HasOddHash64, HasOddHash, HasShortTable, HasBadEntry, HasStringPastEnd, HasStringWithNul, HasTargetOutOfRange, HasLongData, HasStrayReloc, HasOddAlign}
 
 pub record IsObject (b : List ℕ) : Type 0 where
   -- V1
@@ -28,11 +28,11 @@ pub record IsObject (b : List ℕ) : Type 0 where
   -- V10
   pub entries_rise : Nowhere (HasBadEntry b)
   -- V11
-  pub strings_inside : Nowhere (HasLongText b)
+  pub strings_inside : Nowhere (HasStringPastEnd b)
   -- V12
-  pub strings_without_zero : Nowhere (HasZeroText b)
+  pub strings_without_nul : Nowhere (HasStringWithNul b)
   -- V13
-  pub targets_in_range : Nowhere (HasWildTarget b)
+  pub targets_in_range : Nowhere (HasTargetOutOfRange b)
   -- V14
   pub data_within_size : Nowhere (HasLongData b)
   -- V15
@@ -41,9 +41,9 @@ pub record IsObject (b : List ℕ) : Type 0 where
   pub symbols_aligned : Nowhere (HasOddAlign b)
 
 -- The bytes are an object, and the offsets are those of its header. What follows from the rules of
--- the blocks and of the tables stands beside them.
+-- the blocks and of the tables is beside them.
 pub record Fits (b : List ℕ) (offsets : List ℕ) : Type 0 where
   pub object : IsObject b
-  pub laid : Laid b
-  pub indexed : Indexed b
+  pub layout : HasLayout b
+  pub tables : HasIndexTables b
   pub each : (k : ℕ) → k ≤ end → slice_index offsets k ≡ offset_of b k

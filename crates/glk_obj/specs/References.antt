@@ -1,5 +1,5 @@
--- References: a string is named by its length and its place, a symbol by its package's number and its index.
-use Rattle.std.specs.Prelude.{◌≢◌, ◌+◌, ◌<◌, ◌≤◌, ◌==◌, ℕ, List, length, Contains, MatchBool}
+-- References: a string is named by its length and its offset, a symbol by its package's number and its index.
+use Rattle.std.specs.Prelude.{◌≡◌, ◌+◌, ◌<◌, ◌==◌, ℕ, Bool, true, false, List, length, Contains, nat_lt, if◌then◌else◌}
 use Rattle.glk_base.specs.Bytes.{number_at}
 use Rattle.glk_obj.specs.Blocks.{count, pkg_idx, symdef, hashed64def, hasheddef, nonpkgdef, nonpkgref}
 use Rattle.glk_obj.specs.Packages.{nil_package, none_package, hashed64_package, hashed_package, builtin_package, self_package}
@@ -10,20 +10,20 @@ unfoldable pub PassesEnd : List ℕ → ℕ → Type 0
 PassesEnd b at = length b < number_at 4 b (at + 4) + number_at 4 b at
 
 -- the string that is named here has a zero byte
-unfoldable pub HoldsZero : List ℕ → ℕ → Type 0
-HoldsZero b at = Contains (text_at b at) 0
+unfoldable pub HoldsNul : List ℕ → ℕ → Type 0
+HoldsNul b at = Contains (text_at b at) 0
 
--- a reference out of range: nothing has index 0 alone, the special packages count their blocks, and
+-- a reference is in range: nothing has index 0 alone, the special packages count their blocks, and
 -- any other package is an entry of PkgIdx
-abbrev pub IsOutOfRange : List ℕ → SymbolRef → Type 0
-IsOutOfRange b r =
-    MatchBool (r.pkg == nil_package) (r.sym ≢ 0)
-    (MatchBool (r.pkg == none_package) (count b nonpkgdef + count b nonpkgref ≤ r.sym)
-    (MatchBool (r.pkg == hashed64_package) (count b hashed64def ≤ r.sym)
-    (MatchBool (r.pkg == hashed_package) (count b hasheddef ≤ r.sym)
-    (MatchBool (r.pkg == builtin_package) ⊥
-    (MatchBool (r.pkg == self_package) (count b symdef ≤ r.sym) (count b pkg_idx ≤ r.pkg))))))
+unfoldable pub in_range : List ℕ → SymbolRef → Bool
+in_range b r =
+    if r.pkg == nil_package then r.sym == 0
+    else (if r.pkg == none_package then nat_lt r.sym (count b nonpkgdef + count b nonpkgref)
+    else (if r.pkg == hashed64_package then nat_lt r.sym (count b hashed64def)
+    else (if r.pkg == hashed_package then nat_lt r.sym (count b hasheddef)
+    else (if r.pkg == builtin_package then true
+    else (if r.pkg == self_package then nat_lt r.sym (count b symdef) else nat_lt r.pkg (count b pkg_idx))))))
 
 -- the symbol that is meant here is out of range
-unfoldable pub IsWild : List ℕ → ℕ → Type 0
-IsWild b at = IsOutOfRange b (ref_at b at)
+unfoldable pub IsOutOfRangeAt : List ℕ → ℕ → Type 0
+IsOutOfRangeAt b at = in_range b (ref_at b at) ≡ false

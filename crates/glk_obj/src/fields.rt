@@ -1,8 +1,8 @@
 // The rules on a field that records of several blocks have.
 ghost use Rattle.std.specs.Prelude.{◌≡◌, ◌≢◌, ◌+◌, ◌*◌, ◌<◌, ◌≤◌, ◌^◌, ◌↔◌, ℕ, List, length, IsTrue};
 ghost use Rattle.glk_obj.specs.Blocks.{offset_of, width_of, count as count_of, hash, ref_name};
-ghost use Rattle.glk_obj.specs.Fields.{HasField, shift_of, field_place as field_place_of, IsPlace, FailsAt, FailsIn};
-ghost use Rattle.glk_obj.specs.Laid.{Laid};
+ghost use Rattle.glk_obj.specs.Fields.{HasField, shift_of, field_offset as field_offset_of, IsFieldOffset, FailsAt, FailsIn};
+ghost use Rattle.glk_obj.specs.Layout.{HasLayout};
 ghost use Rattle.glk_base.specs.Least.{LeastOf};
 
 use crate::blocks::{Block, count_at, offset_at, width_at};
@@ -14,7 +14,7 @@ pub(crate) enum Field {
     Target,
 }
 
-/// A test of the field that stands at a place. It may know something of the object.
+/// A test of the field at an offset. It may know something of the object.
 pub(crate) trait FieldTest {
     ghost knows: { Self → List ℕ → Type 0 };
 
@@ -29,7 +29,7 @@ pub(crate) trait FieldTest {
         ensures { IsTrue result ↔ bad bytes.now at };
 }
 
-/// Whether the records of block `t` have the field.
+// Whether the records of block `t` have the field.
 #[tactic(auto, unfolding(crate::specs::Fields::HasField))]
 fn has_field(field: Field, t: usize) -> bool
     ensures { IsTrue result ↔ HasField field t }
@@ -46,7 +46,7 @@ fn has_field(field: Field, t: usize) -> bool
     }
 }
 
-/// How far into a record of block `t` the field stands.
+// How far into a record of block `t` the field is.
 #[tactic(auto, unfolding(crate::specs::Fields::shift_of))]
 fn shift(field: Field, t: usize) -> usize
     ensures value { result ≡ shift_of field t }
@@ -66,9 +66,9 @@ fn shift(field: Field, t: usize) -> usize
     }
 }
 
-/// Where record `i` of block `t` has the field, the block being at `start`.
-#[tactic(auto, unfolding(crate::specs::Fields::field_place))]
-fn field_place(
+// Where record `i` of block `t` has the field, the block being at `start`.
+#[tactic(auto, unfolding(crate::specs::Fields::field_offset))]
+fn field_offset(
     bytes: &[u8],
     field: Field,
     t: usize,
@@ -77,7 +77,7 @@ fn field_place(
     shift: usize,
     i: u32,
 ) -> usize
-    requires laid { Laid bytes.now }
+    requires layout { HasLayout bytes.now }
     requires block { HasField field t }
     requires start { start ≡ offset_of bytes.now t }
     requires low { start < 2 ^ 32 }
@@ -86,28 +86,28 @@ fn field_place(
     requires shift { shift ≡ shift_of field t }
     requires near { shift < 16 }
     requires index { i < count_of bytes.now t }
-    ensures value { result ≡ field_place_of bytes.now field t i }
+    ensures value { result ≡ field_offset_of bytes.now field t i }
     ensures room { result + 8 ≤ length bytes.now }
 {
     let _ = bytes;
     start + width * i as usize + shift
 }
 
-/// The first place in block `t` at which the test fails.
+// The first offset in block `t` at which the test fails.
 fn first_in_block<T: FieldTest>(bytes: &[u8], field: Field, t: usize, test: &T) -> Option<u64>
-    requires laid { Laid bytes.now }
+    requires layout { HasLayout bytes.now }
     requires block { HasField field t }
     requires inside { t ≤ ref_name }
     requires fixed { t ≢ hash }
     requires knows { T.knows test.now bytes.now }
-    requires can { (at : ℕ) → IsPlace bytes.now field at → T.can bytes.now at }
+    requires can { (at : ℕ) → IsFieldOffset bytes.now field at → T.can bytes.now at }
     ensures { LeastOf (FailsIn bytes.now field (T.bad bytes.now) t) result }
 {
     let start = offset_at(bytes, t);
     let width = width_at(t);
     let shift = shift(field, t);
     for i in 0..count_at(bytes, t) {
-        let at = field_place(bytes, field, t, start, width, shift, i);
+        let at = field_offset(bytes, field, t, start, width, shift, i);
         if test.fails(bytes, at) {
             return Some(at as u64);
         }
@@ -115,11 +115,11 @@ fn first_in_block<T: FieldTest>(bytes: &[u8], field: Field, t: usize, test: &T) 
     None
 }
 
-/// The first place at which the test fails.
+/// The first offset at which the test fails.
 pub(crate) fn first_failing<T: FieldTest>(bytes: &[u8], field: Field, test: &T) -> Option<u64>
-    requires laid { Laid bytes.now }
+    requires layout { HasLayout bytes.now }
     requires knows { T.knows test.now bytes.now }
-    requires can { (at : ℕ) → IsPlace bytes.now field at → T.can bytes.now at }
+    requires can { (at : ℕ) → IsFieldOffset bytes.now field at → T.can bytes.now at }
     ensures { LeastOf (FailsAt bytes.now field (T.bad bytes.now)) result }
 {
     for t in 0..Block::End.number() {

@@ -1,26 +1,26 @@
 // What is known of a function beside its code.
 ghost use Rattle.std.specs.Prelude.{◌≡◌, ◌+◌, ◌<◌, ◌≤◌, ◌^◌, length};
 ghost use Rattle.std.specs.Option.{SomeIff};
-ghost use Rattle.glk_obj.specs.FuncInfos.{HoldsFuncInfo, args, func_id, func_flag, start_line, node_count_place, nodes_place, node_count, node_place as node_place_of, node_width, node_from, node_at};
+ghost use Rattle.glk_obj.specs.FuncInfos.{HoldsFuncInfo, args, func_id, func_flag, start_line, node_count_offset, nodes_offset, node_count, node_offset as node_offset_of, node_width, node_from, node_at};
 ghost use Rattle.glk_obj.specs.Views.{node_view};
 
 use crate::records::{SymRef, reference};
 use glk_base::le32;
 use std::marker::Model;
 
-/// Where the data have the ID of the function.
+// Where the data have the ID of the function.
 const FUNC_ID: usize = 8;
-/// Where they have its flag.
+// Where they have its flag.
 const FUNC_FLAG: usize = 9;
-/// Where they have its first line.
+// Where they have its first line.
 const START_LINE: usize = 12;
-/// Where they have the number of its files.
+// Where they have the number of its files.
 const FILE_COUNT: usize = 16;
-/// Where they have the numbers of the files.
+// Where they have the numbers of the files.
 const FILES: usize = 20;
-/// The width of a file's number.
+// The width of a file's number.
 const FILE_WIDTH: usize = 4;
-/// The width of a node.
+// The width of a node.
 const NODE_WIDTH: usize = 24;
 
 /// A call that the compiler has inlined into a function, a node of the function's inline tree.
@@ -28,9 +28,9 @@ const NODE_WIDTH: usize = 24;
 pub struct InlNode {
     /// The node of the call around this one; below 0 where the function itself is around it.
     pub parent: i32,
-    /// The file in which the call stands, by its place in the object's file block.
+    /// The file that has the call, by its index in the object's file block.
     pub file: u32,
-    /// The line on which the call stands.
+    /// The line that has the call.
     pub line: i32,
     /// The function that is called.
     pub func: SymRef,
@@ -59,20 +59,20 @@ impl<'a> Model for FuncInfo<'a> {
     ghost invariant = { λ f. IsRead f.bytes.now f.start f.nodes };
 }
 
-/// Where node `k` stands, the nodes being at `start`.
-fn node_place(bytes: &[u8], start: usize, k: u32) -> usize
+// The offset of node `k`, the nodes being at `start`.
+fn node_offset(bytes: &[u8], start: usize, k: u32) -> usize
     requires whole { HoldsFuncInfo bytes.now }
-    requires start { start ≡ nodes_place bytes.now }
+    requires start { start ≡ nodes_offset bytes.now }
     requires low { start < 2 ^ 40 }
     requires index { k < node_count bytes.now }
-    ensures value { result ≡ node_place_of bytes.now k }
+    ensures value { result ≡ node_offset_of bytes.now k }
     ensures room { result + node_width ≤ length bytes.now }
 {
     let _ = bytes;
     start + NODE_WIDTH * k as usize
 }
 
-/// The node that begins here.
+// The node that begins here.
 fn node(bytes: &[u8], at: usize) -> InlNode
     requires { at + node_width ≤ length bytes.now }
     ensures { node_view result ≡ node_from bytes.now at }
@@ -146,6 +146,6 @@ impl<'a> FuncInfo<'a> {
         requires { k < node_count self.now }
         ensures { node_view result ≡ node_at self.now k }
     {
-        node(self.bytes, node_place(self.bytes, self.start, k))
+        node(self.bytes, node_offset(self.bytes, self.start, k))
     }
 }

@@ -1,7 +1,7 @@
 // The kinds of relocations.
 ghost use Rattle.std.specs.Prelude.{◌≡◌, ◌<◌, Some};
 ghost use Rattle.std.specs.List.{slice_get};
-ghost use Rattle.glk_obj.specs.Numbers.{kinds, place_of, name_of};
+ghost use Rattle.glk_obj.specs.Numbers.{kinds, index_of, standard_number, name_of};
 
 /// What a relocation asks for. Go's own names for these are those of `cmd/internal/objabi`, as
 /// `R_ADDR`.
@@ -17,7 +17,7 @@ pub enum RelocKind {
     AddrOff,
     /// A method of a type, relative to the start of its section; -1 where the method is not kept.
     MethodOff,
-    /// The place of a thread's own variable.
+    /// The offset of a thread's own variable.
     TlsLe,
     /// The function turns the target, a type, into an interface.
     UseIface,
@@ -40,7 +40,7 @@ pub enum RelocKind {
 /// How many kinds there are.
 pub(crate) const KINDS: usize = 14;
 
-/// The kinds in their order.
+// The kinds in their order.
 const ORDER: [RelocKind; KINDS] = [
     RelocKind::Addr,
     RelocKind::Call,
@@ -59,20 +59,28 @@ const ORDER: [RelocKind; KINDS] = [
 ];
 
 impl RelocKind {
-    /// The kind at a place in their order.
-    pub(crate) fn at(place: usize) -> RelocKind
-        requires { place < 14 }
-        ensures { slice_get kinds place ≡ Some result }
+    /// The kind at an index in their order.
+    pub(crate) fn at(index: usize) -> RelocKind
+        requires { index < 14 }
+        ensures { slice_get kinds index ≡ Some result }
     {
-        ORDER[place]
+        ORDER[index]
     }
 
-    /// The place of the kind in their order.
-    pub(crate) fn place(self) -> usize
-        ensures value { result ≡ place_of self }
+    /// The index of the kind in their order.
+    pub(crate) fn index(self) -> usize
+        ensures value { result ≡ index_of self }
         ensures small { result < 14 }
     {
         self as usize
+    }
+
+    /// The number of the kind where no file of numbers lists others: 1 to 14, in the order of the
+    /// kinds.
+    pub fn standard_number(self) -> u16
+        ensures { result ≡ standard_number self }
+    {
+        self as u16 + 1
     }
 
     /// The name by which a file of numbers lists the kind.

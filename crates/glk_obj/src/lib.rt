@@ -7,23 +7,31 @@
 #![tactic(auto)]
 
 mod blocks;
+mod check;
 mod definitions;
 mod fields;
+mod flags;
 mod funcinfo;
 mod kinds;
+mod nul_index;
 mod numbers;
+mod offsets;
 mod packages;
-mod places;
 mod records;
 mod references;
 mod rules;
+mod symbols;
 mod tables;
 #[cfg(test)]
 mod tests;
 mod view;
-mod zeros;
 
-pub use blocks::Block;
+pub use blocks::{
+    AUTOLIB_WIDTH, AUX_WIDTH, BLOCK_COUNT, Block, ENTRY_WIDTH, HASH64_WIDTH, HEADER_LENGTH,
+    LONGEST_HASH, MAGIC, NAME_WIDTH, REF_FLAGS_WIDTH, REF_NAME_WIDTH, RELOC_WIDTH, SHORTEST_HASH,
+    SYMBOL_WIDTH,
+};
+pub use check::ObjBad;
 pub use funcinfo::{FuncInfo, InlNode};
 pub use kinds::RelocKind;
 pub use numbers::Numbers;
@@ -31,5 +39,5 @@ pub use packages::{
     BUILTIN_PACKAGE, HASHED_PACKAGE, HASHED64_PACKAGE, NIL_PACKAGE, NONE_PACKAGE, SELF_PACKAGE,
 };
 pub use records::{AuxRec, RefFlagsRec, RelocRec, SymRec, SymRef};
-pub use rules::ObjBad;
+pub use symbols::{Abi, AuxKind, SymKind};
 pub use view::{ObjShape, ObjView};

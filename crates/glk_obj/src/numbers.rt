@@ -1,15 +1,15 @@
 // The numbers that relocations have for their kinds.
 ghost use Rattle.std.specs.Prelude.{◌≡◌, ◌<◌, ◌≤◌, ◌↔◌, ℕ, length, slice_index, Some, false, OnOk, IfOk, IfErr, MatchOption};
-ghost use Rattle.glk_base.specs.Lines.{lines, trimmed, is_passed as passed, AllGood, IsFirstBad};
+ghost use Rattle.glk_base.specs.Lines.{lines, trimmed_line, is_skipped as skipped, AllGood, IsFirstBad};
 ghost use Rattle.glk_obj.specs.declared.kinds.RelocKind.{RelocKind};
-ghost use Rattle.glk_obj.specs.NumberSteps.{Takes};
-ghost use Rattle.glk_obj.specs.Numbers.{standard_number, name_of, number_in, kind_of, Gives, IsGiven, IsGood};
+ghost use Rattle.glk_obj.specs.NumberSteps.{Takes, IsKindNamed, IsEntryOf};
+ghost use Rattle.glk_obj.specs.Numbers.{number_in, kind_of, Gives, IsGood, IsStandard, IsListed};
 
 use crate::kinds::{KINDS, RelocKind};
 use glk_base::ConfigLine;
-use glk_base::lines::{after_word, cut_line, first_word, is_passed, small_number, trim};
+use glk_base::lines::{after_word, cut_line, first_word, is_skipped, small_number, trim};
 
-/// The greatest number of a kind.
+// The greatest number of a kind.
 const GREATEST: u16 = 32767;
 
 /// Which number means which kind of relocation. The numbers are those of the compiler, so another
@@ -21,12 +21,12 @@ pub struct Numbers {
     numbers: [u16; KINDS],
 }
 
-/// The kind of this name.
+// The kind of this name.
 fn kind_named(name: &[u8]) -> Option<RelocKind>
-    ensures { MatchOption result ((kind : RelocKind) → name.now ≡ name_of kind → ⊥) (λ kind. name.now ≡ name_of kind) }
+    ensures { IsKindNamed name.now result }
 {
-    for place in 0..KINDS {
-        let kind = RelocKind::at(place);
+    for index in 0..KINDS {
+        let kind = RelocKind::at(index);
         if kind.name() == name {
             return Some(kind);
         }
@@ -34,10 +34,10 @@ fn kind_named(name: &[u8]) -> Option<RelocKind>
     None
 }
 
-/// The kind and the number that a line gives, which has no blanks at its ends and isn't passed over.
+// The kind and the number that a line gives, which has no blanks at its ends and isn't skipped.
 fn entry(line: &[u8]) -> Option<(RelocKind, u16)>
-    requires { passed line.now ≡ false }
-    ensures { MatchOption result ((kind : RelocKind) (number : ℕ) → Gives line.now kind number → ⊥) (λ e. Gives line.now e.0 e.1) }
+    requires { skipped line.now ≡ false }
+    ensures { IsEntryOf line.now result }
 {
     let kind = kind_named(first_word(line))?;
     let number = small_number(after_word(line))?;
@@ -56,20 +56,24 @@ impl Numbers {
     /// INITORDER 11, CALLIND 12, KEEP 13, IGNORE 14.
     #[tactic(auto, unfolding(crate::specs::Numbers::kind_of))]
     pub fn standard() -> Numbers
-        ensures { (kind : RelocKind) (number : ℕ) → (kind_of result number ≡ Some kind) ↔ (number ≡ standard_number kind) }
+        ensures { IsStandard result }
     {
         Numbers {
             numbers: [1, 2, 3, 4, 5, 6, 7, 8, 9, 10, 11, 12, 13, 14],
         }
     }
 
-    /// The numbers that a file lists, or its first bad line. Each line has the name of a kind, spaces,
+    /// The numbers that a file lists. Each line has the name of a kind, spaces,
     /// and a number from 1 to 32767 in decimal; blanks at its ends don't count, and empty lines and
-    /// lines that begin with `#` are passed over. A line that gives a name or a number which an
+    /// lines that begin with `#` are skipped. A line that gives a name or a number which an
     /// earlier line has given is bad. A kind that is not listed has no number.
+    ///
+    /// # Errors
+    ///
+    /// The number of the first bad line, from 1.
     pub fn parse(text: &[u8]) -> Result<Numbers, ConfigLine>
         ensures good { OnOk result (AllGood (lines text.now) (IsGood (lines text.now))) }
-        ensures kinds { IfOk result (λ table. (kind : RelocKind) (number : ℕ) → (kind_of table number ≡ Some kind) ↔ IsGiven (lines text.now) (length (lines text.now)) kind number) }
+        ensures kinds { IfOk result (IsListed (lines text.now)) }
         ensures bad { IfErr result (λ bad. IsFirstBad (lines text.now) (IsGood (lines text.now)) bad.line) }
     {
         let mut table = Numbers {
@@ -97,8 +101,8 @@ impl Numbers {
         if number == 0 {
             return None;
         }
-        for place in 0..KINDS {
-            let kind = RelocKind::at(place);
+        for index in 0..KINDS {
+            let kind = RelocKind::at(index);
             if self.number(kind) == number {
                 return Some(kind);
             }
@@ -106,19 +110,19 @@ impl Numbers {
         None
     }
 
-    /// The number of a kind, or 0.
+    // The number of a kind, or 0.
     fn number(&self, kind: RelocKind) -> u16
         ensures { result ≡ number_in self.now kind }
     {
-        self.numbers[kind.place()]
+        self.numbers[kind.index()]
     }
 
-    /// The table with what a line gives added, or none where the line is bad. The line has no blanks
-    /// at its ends.
+    // The table with what a line gives added, or none where the line is bad. The line has no blanks
+    // at its ends.
     fn with_line(self, line: &[u8]) -> Option<Numbers>
         ensures { Takes self line.now result }
     {
-        if is_passed(line) {
+        if is_skipped(line) {
             return Some(self);
         }
         match entry(line) {
@@ -127,7 +131,7 @@ impl Numbers {
         }
     }
 
-    /// The same where the line gives the kind the number.
+    // The same where the line gives the kind the number.
     fn with(self, line: &[u8], kind: RelocKind, number: u16) -> Option<Numbers>
         requires { Gives line.now kind number }
         ensures { Takes self line.now result }
@@ -141,7 +145,7 @@ impl Numbers {
             None => {}
         }
         let mut numbers = self.numbers;
-        numbers[kind.place()] = number;
+        numbers[kind.index()] = number;
         Some(Numbers { numbers })
     }
 }

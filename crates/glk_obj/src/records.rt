@@ -1,12 +1,25 @@
 // The records of an object.
 ghost use Rattle.std.specs.Prelude.{◌≡◌, ◌+◌, ◌≤◌, length};
 ghost use Rattle.glk_obj.specs.Blocks.{symbol_width, reloc_width, aux_width, ref_flags_width};
-ghost use Rattle.glk_obj.specs.Records.{ref_at, symbol_from, reloc_from, aux_from, ref_flags_from};
+ghost use Rattle.glk_obj.specs.Records.{ref_at, field_start, symbol_from, reloc_from, aux_from, ref_flags_from};
 ghost use Rattle.glk_obj.specs.References.{PassesEnd};
 ghost use Rattle.glk_obj.specs.Views.{ref_view, symbol_view, reloc_view, aux_view, ref_flags_view};
 
 use crate::references::text;
 use glk_base::{le16, le32, le64};
+
+// The offset of the ABI in a symbol's record.
+const SYMBOL_ABI: usize = 8;
+/// The offset of the type in a symbol's record.
+pub(crate) const SYMBOL_KIND: usize = 10;
+// The offsets of the flags in a symbol's record.
+const SYMBOL_FLAG: usize = 11;
+
+const SYMBOL_FLAG2: usize = 12;
+/// The offset of the size in a symbol's record.
+pub(crate) const SYMBOL_SIZE: usize = 13;
+/// The offset of the alignment in a symbol's record.
+pub(crate) const SYMBOL_ALIGN: usize = 17;
 
 /// A symbol's record; the name is a slice of the object.
 #[derive(Clone, Copy, Debug, PartialEq, Eq)]
@@ -43,6 +56,16 @@ pub struct RelocRec {
     pub target: SymRef,
 }
 
+impl RelocRec {
+    /// Where the field begins in its symbol. In a symbol with content it is never below 0.
+    #[tactic(auto, unfolding(crate::specs::Records::field_start))]
+    pub fn field_start(&self) -> u32
+        ensures { result ≡ field_start (reloc_view self.now) }
+    {
+        self.off.cast_unsigned()
+    }
+}
+
 /// A symbol that belongs to a definition, as its type or its table of lines.
 #[derive(Clone, Copy, Debug, PartialEq, Eq)]
 pub struct AuxRec {
@@ -58,7 +81,7 @@ pub struct RefFlagsRec {
     pub flag2: u8,
 }
 
-/// The reference that stands here.
+/// The reference at this offset.
 pub(crate) fn reference(bytes: &[u8], at: usize) -> SymRef
     requires { at + 8 ≤ length bytes.now }
     ensures { ref_view result ≡ ref_at bytes.now at }
@@ -77,12 +100,12 @@ pub(crate) fn symbol(bytes: &[u8], at: usize) -> SymRec<'_>
 {
     SymRec {
         name: text(bytes, at),
-        abi: le16(bytes, at + 8).unwrap(),
-        kind: bytes[at + 10],
-        flag: bytes[at + 11],
-        flag2: bytes[at + 12],
-        size: le32(bytes, at + 13).unwrap(),
-        align: le32(bytes, at + 17).unwrap(),
+        abi: le16(bytes, at + SYMBOL_ABI).unwrap(),
+        kind: bytes[at + SYMBOL_KIND],
+        flag: bytes[at + SYMBOL_FLAG],
+        flag2: bytes[at + SYMBOL_FLAG2],
+        size: le32(bytes, at + SYMBOL_SIZE).unwrap(),
+        align: le32(bytes, at + SYMBOL_ALIGN).unwrap(),
     }
 }
 

@@ -1,15 +1,11 @@
-// Objects byte by byte, and what refuses them.
+// Objects byte by byte, and what refuses them. The objects are made by hand from Go's `cmd/internal/goobj`.
 use super::{
-    AuxRec, BUILTIN_PACKAGE, Block, HASHED64_PACKAGE, NONE_PACKAGE, ObjShape, ObjView, RefFlagsRec,
-    RelocRec, SELF_PACKAGE, SymRec, SymRef,
+    Abi, AuxKind, Block, FuncInfo, InlNode, NONE_PACKAGE, Numbers, ObjView, RelocKind, RelocRec,
+    SELF_PACKAGE, SymKind, SymRec, SymRef,
 };
 use std::test::Fail;
 
-mod functions;
-mod kinds;
-mod shared;
-
-/// The object of a program's entry that only exits: one definition with nine bytes of code.
+// The object of a program's entry that only exits: one definition with nine bytes of code.
 const LEAST: [u8; 174] = [
     // the magic, no fingerprint, no flags
     0, 103, 111, 49, 50, 48, 108, 100, 0, 0, 0, 0, 0, 0, 0, 0, 0, 0, 0, 0,
@@ -29,7 +25,7 @@ const LEAST: [u8; 174] = [
     49, 255, 184, 60, 0, 0, 0, 15, 5,
 ];
 
-/// An object with a record in each block, 468 bytes.
+// An object with a record in each block, 468 bytes.
 const FULL: [u8; 468] = [
     // the magic, the fingerprint, the flags
     0, 103, 111, 49, 50, 48, 108, 100, 240, 241, 242, 243, 244, 245, 246, 247, 4, 0, 0, 0,
@@ -80,7 +76,18 @@ const FULL: [u8; 468] = [
     0, 0,
 ];
 
-// The objects as values of which a proof knows nothing: the tests read their bytes.
+// Data of a FuncInfo of two files and two nodes, 80 bytes.
+const INFO: [u8; 80] = [
+    // args, locals, funcID, funcFlag, two bytes without a meaning, startLine
+    24, 1, 0, 0, 7, 7, 7, 7, 3, 2, 9, 9, 254, 255, 255, 255,
+    // the files
+    2, 0, 0, 0, 0, 0, 0, 0, 1, 0, 0, 0,
+    // the nodes: parent, file, line, func, parentPC
+    2, 0, 0, 0, 255, 255, 255, 255, 1, 0, 0, 0, 10, 0, 0, 0, 255, 255, 255, 127, 5, 0, 0, 0, 4, 3,
+    2, 1, 0, 0, 0, 0, 0, 0, 0, 0, 246, 255, 255, 255, 1, 0, 0, 0, 6, 0, 0, 0, 255, 255, 255, 255,
+];
+
+// The bytes as values of which a proof knows nothing: the tests read them.
 
 fn least() -> [u8; 174] {
     LEAST
@@ -90,68 +97,71 @@ fn full() -> [u8; 468] {
     FULL
 }
 
-/// The rule and the offset by which these bytes are refused, if they are.
-fn refusal(bytes: &[u8]) -> Option<(u8, u64)> {
-    let bad = ObjView::read(bytes).map(|_| ()).err()?;
-    Some((bad.rule, bad.offset))
+fn info() -> [u8; 80] {
+    INFO
 }
 
-/// The same of the first object with one byte changed.
-fn least_with(at: usize, value: u8) -> Option<(u8, u64)> {
-    let mut bytes = least();
+// The rule and the offset by which bytes with one of them changed are refused; 0 and 0 where they
+// are an object.
+fn refusal(bytes: &mut [u8], at: usize, value: u8) -> (u8, u64) {
     if let Some(byte) = bytes.get_mut(at) {
         *byte = value;
     }
-    refusal(&bytes)
-}
-
-/// The same of the second object.
-fn full_with(at: usize, value: u8) -> Option<(u8, u64)> {
-    let mut bytes = full();
-    if let Some(byte) = bytes.get_mut(at) {
-        *byte = value;
+    match ObjView::read(bytes) {
+        Ok(_) => (0, 0),
+        Err(bad) => (bad.rule, bad.offset),
     }
-    refusal(&bytes)
 }
 
 #[test]
-fn reads_a_small_object(rt: HostRuntime) -> Result<(), Fail> {
-    let bytes = least();
-    let shape = ObjShape::check(&bytes)?;
-    let object = shape.view(&bytes);
-    assert_eq!(rt; object.fingerprint(), [0; 8]);
-    assert_eq!(rt; object.flags(), 0);
-    assert_eq!(rt; object.count(Block::PkgIdx), 1);
-    let dummy = object.pkg(0);
-    assert_eq!(rt; dummy, b"".as_slice());
-    assert_eq!(rt; object.symbols(), 1);
-    let symbol = SymRec {
-        name: b"_rt0_amd64_linux",
-        abi: 0,
-        kind: 1,
-        flag: 0,
-        flag2: 0,
-        size: 9,
-        align: 0,
-    };
-    assert_eq!(rt; object.sym(0), symbol);
-    Ok(())
+fn the_rule_and_the_offset_are_named(rt: HostRuntime) {
+    let rows = [
+        // (whether of the second object, where, what, rule, offset)
+        (false, 0, 1, 2, 0),
+        (false, 20, 95, 3, 20),
+        (false, 92, 175, 4, 92),
+        (false, 28, 119, 5, 24),
+        (false, 16, 8, 6, 16),
+        // Hash begins four bytes before RelocIdx, which then has one entry
+        (false, 64, 145, 8, 60),
+        (false, 68, 145, 9, 64),
+        // an entry above the next one, and the last entry past the records
+        (false, 141, 1, 10, 145),
+        (false, 161, 10, 10, 161),
+        (false, 120, 79, 11, 120),
+        (false, 120, 78, 12, 120),
+        (false, 133, 8, 14, 120),
+        (false, 137, 3, 16, 120),
+        // an empty string at the end, and past it; alignments of 4096 and of 8192
+        (false, 116, 174, 0, 0),
+        (false, 116, 175, 11, 112),
+        (false, 138, 0x10, 0, 0),
+        (false, 138, 0x20, 16, 120),
+        (true, 60, 0x14, 7, 56),
+        (true, 64, 0x20, 8, 60),
+        (true, 463, 1, 11, 460),
+        (true, 153, 22, 12, 153),
+        // references of relocations, auxes, flags and names
+        (true, 383, 1, 13, 379),
+        (true, 406, 2, 13, 402),
+        (true, 266, 2, 13, 266),
+        (true, 436, 2, 13, 436),
+        (true, 174, 4, 15, 364),
+        (true, 387, 13, 15, 387),
+        (true, 367, 0x80, 15, 364),
+    ];
+    for (second, at, value, rule, offset) in rows {
+        let found = if second {
+            refusal(&mut full(), at, value)
+        } else {
+            refusal(&mut least(), at, value)
+        };
+        assert_eq!(rt; found, (rule, offset), "{value} at {at}");
+    }
 }
 
 #[test]
-fn reads_the_code_of_a_small_object(rt: HostRuntime) -> Result<(), Fail> {
-    let bytes = least();
-    let object = ObjView::read(&bytes)?;
-    assert_eq!(rt; object.definitions(), 1);
-    let data = object.data(0);
-    assert_eq!(rt; data, [0x31, 0xff, 0xb8, 0x3c, 0, 0, 0, 0x0f, 5].as_slice());
-    assert_eq!(rt; object.relocs(0), 0);
-    assert_eq!(rt; object.auxes(0), 0);
-    Ok(())
-}
-
-#[test]
-fn counts_the_records_of_each_block(rt: HostRuntime) -> Result<(), Fail> {
+fn each_block_has_its_records(rt: HostRuntime) -> Result<(), Fail> {
     let bytes = full();
     let object = ObjView::read(&bytes)?;
     let rows = [
@@ -178,78 +188,44 @@ fn counts_the_records_of_each_block(rt: HostRuntime) -> Result<(), Fail> {
     for (block, records) in rows {
         assert_eq!(rt; object.count(block), records, "{block:?}");
     }
-    assert_eq!(rt; object.definitions(), 4);
-    assert_eq!(rt; object.symbols(), 5);
     Ok(())
 }
 
-#[test]
-fn reads_the_header_and_the_names(rt: HostRuntime) -> Result<(), Fail> {
-    let bytes = full();
-    let object = ObjView::read(&bytes)?;
-    let fingerprint = [0xf0, 0xf1, 0xf2, 0xf3, 0xf4, 0xf5, 0xf6, 0xf7];
-    assert_eq!(rt; object.fingerprint(), fingerprint);
-    assert_eq!(rt; object.flags(), 4);
-    assert_eq!(rt; object.count(Block::Autolib), 1);
-    let (path, fingerprint) = object.autolib(0);
-    assert_eq!(rt; path, b"fmt".as_slice());
-    assert_eq!(rt; fingerprint, [1, 2, 3, 4, 5, 6, 7, 8]);
-    assert_eq!(rt; object.count(Block::PkgIdx), 2);
-    assert_eq!(rt; object.pkg(1), b"os".as_slice());
-    assert_eq!(rt; object.count(Block::File), 1);
-    assert_eq!(rt; object.file(0), b"m.go".as_slice());
-    Ok(())
-}
-
-#[test]
-fn reads_the_hashes(rt: HostRuntime) -> Result<(), Fail> {
-    let bytes = full();
-    let object = ObjView::read(&bytes)?;
-    assert_eq!(rt; object.count(Block::Hash64), 1);
-    let short = object.hash64(0);
-    assert_eq!(rt; short, [0x11, 0x12, 0x13, 0x14, 0x15, 0x16, 0x17, 0x18]);
-    assert_eq!(rt; object.count(Block::Hasheddef), 1);
-    let long = object.hash(0);
-    assert_eq!(rt; long.len(), 20);
-    assert_eq!(rt; long.first(), Some(&0x20));
-    assert_eq!(rt; long.last(), Some(&0x33));
-    Ok(())
-}
-
-#[test]
-fn reads_what_is_known_of_other_packages(rt: HostRuntime) -> Result<(), Fail> {
-    let bytes = full();
-    let object = ObjView::read(&bytes)?;
+// Whether the strings and hashes of the second object are read.
+fn has_strings(object: &ObjView<'_>) -> bool {
+    if object.count(Block::Autolib) == 0 || object.count(Block::PkgIdx) < 2 {
+        return false;
+    }
+    if object.count(Block::File) == 0 || object.count(Block::Hasheddef) == 0 {
+        return false;
+    }
+    if object.count(Block::Hash64) == 0 || object.count(Block::RefName) == 0 {
+        return false;
+    }
     let other = SymRef { pkg: 1, sym: 5 };
-    assert_eq!(rt; object.count(Block::RefFlags), 1);
-    let flags = RefFlagsRec {
-        target: other,
-        flag: 16,
-        flag2: 1,
-    };
-    assert_eq!(rt; object.ref_flags(0), flags);
-    assert_eq!(rt; object.ref_name(other), Some(b"first".as_slice()));
-    let unnamed = SymRef { pkg: 5, sym: 1 };
-    assert_eq!(rt; object.ref_name(unnamed), None);
-    Ok(())
+    let (path, fingerprint) = object.autolib(0);
+    let (target, name) = object.ref_name_at(0);
+    path == b"fmt".as_slice()
+        && fingerprint == [1, 2, 3, 4, 5, 6, 7, 8]
+        && object.pkg(1) == b"os".as_slice()
+        && object.file(0) == b"m.go".as_slice()
+        && object.hash64(0) == [17, 18, 19, 20, 21, 22, 23, 24]
+        && object.hash(0).first() == Some(&32)
+        && object.hash_width() == Some(20)
+        && target == other
+        && name == b"first".as_slice()
+        && object.ref_name(other) == Some(b"first".as_slice())
 }
 
-#[test]
-fn reads_the_symbols_in_a_row(rt: HostRuntime) -> Result<(), Fail> {
-    let bytes = full();
-    let object = ObjView::read(&bytes)?;
-    assert_eq!(rt; object.symbols(), 5);
-    let function = SymRec {
-        name: b"f",
-        abi: 1,
-        kind: 1,
-        flag: 2,
-        flag2: 3,
-        size: 16,
-        align: 32,
-    };
-    assert_eq!(rt; object.sym(0), function);
-    let last = SymRec {
+// Whether a definition of the second object, its data, its relocations and its aux are read.
+fn has_definition(object: &ObjView<'_>) -> bool {
+    if object.definitions() != 4 || object.symbols() != 5 {
+        return false;
+    }
+    if object.relocs(0) != 2 || object.auxes(3) != 1 {
+        return false;
+    }
+    let symbol = SymRec {
         name: b"k",
         abi: 65535,
         kind: 3,
@@ -258,212 +234,121 @@ fn reads_the_symbols_in_a_row(rt: HostRuntime) -> Result<(), Fail> {
         size: 8,
         align: 4096,
     };
-    assert_eq!(rt; object.sym(3), last);
-    assert_eq!(rt; object.sym(4).name, b"r".as_slice());
-    Ok(())
-}
-
-#[test]
-fn reads_the_data_and_the_relocations(rt: HostRuntime) -> Result<(), Fail> {
-    let bytes = full();
-    let object = ObjView::read(&bytes)?;
-    assert_eq!(rt; object.definitions(), 4);
-    assert_eq!(rt; object.data(1), [0xb0, 0xb1].as_slice());
-    assert_eq!(rt; object.data(3), b"".as_slice());
-    assert_eq!(rt; object.relocs(1), 0);
-    assert_eq!(rt; object.relocs(0), 2);
-    let own = SymRef {
-        pkg: SELF_PACKAGE,
-        sym: 0,
-    };
-    let first = RelocRec {
-        off: 0,
-        size: 8,
-        kind: 1,
-        add: -2,
-        target: own,
-    };
-    assert_eq!(rt; object.reloc(0, 0), first);
-    let plain = SymRef {
-        pkg: NONE_PACKAGE,
-        sym: 1,
-    };
-    let second = RelocRec {
+    let reloc = RelocRec {
         off: 12,
         size: 4,
         kind: 8,
         add: 0x0102_0304_0506_0708,
-        target: plain,
+        target: SymRef {
+            pkg: NONE_PACKAGE,
+            sym: 1,
+        },
     };
-    assert_eq!(rt; object.reloc(0, 1), second);
-    Ok(())
+    object.sym(3) == symbol
+        && object.data(1) == [0xb0, 0xb1].as_slice()
+        && object.reloc(0, 1) == reloc
+        && object.aux(3, 0).kind == 9
 }
 
 #[test]
-fn reads_the_auxes(rt: HostRuntime) -> Result<(), Fail> {
+fn records_are_read(rt: HostRuntime) -> Result<(), Fail> {
     let bytes = full();
     let object = ObjView::read(&bytes)?;
-    assert_eq!(rt; object.definitions(), 4);
-    assert_eq!(rt; object.auxes(0), 1);
-    let hashed = SymRef {
-        pkg: HASHED64_PACKAGE,
-        sym: 0,
-    };
-    let first = AuxRec {
-        kind: 1,
-        target: hashed,
-    };
-    assert_eq!(rt; object.aux(0, 0), first);
-    assert_eq!(rt; object.auxes(3), 1);
-    let known = SymRef {
-        pkg: BUILTIN_PACKAGE,
-        sym: 7,
-    };
-    let last = AuxRec {
-        kind: 9,
-        target: known,
-    };
-    assert_eq!(rt; object.aux(3, 0), last);
+    assert!(rt; has_strings(&object));
+    assert!(rt; has_definition(&object));
+    let own = [0, 1].map(|sym| object.in_range(SymRef {
+        pkg: SELF_PACKAGE,
+        sym,
+    }));
+    assert_eq!(rt; own, [true, false]);
     Ok(())
 }
 
 #[test]
-fn refuses_every_front_of_an_object(rt: HostRuntime) {
-    let bytes = least();
-    for n in 0..bytes.len() {
-        let wanted = if n < 96 { (1, n as u64) } else { (4, 92) };
-        let front = bytes.get(..n).map(refusal);
-        assert_eq!(rt; front, Some(Some(wanted)), "the first {n} bytes");
-    }
+fn a_function_is_read(rt: HostRuntime) -> Result<(), Fail> {
+    let bytes = info();
+    let function = FuncInfo::read(&bytes).ok_or("too short")?;
+    let head = (function.args(), function.func_id(), function.func_flag());
+    assert_eq!(rt; head, (280, 3, 2));
+    assert_eq!(rt; function.start_line(), -2);
+    assert_eq!(rt; function.nodes(), 2);
+    let inner = InlNode {
+        parent: 0,
+        file: 0,
+        line: -10,
+        func: SymRef { pkg: 1, sym: 6 },
+        parent_pc: -1,
+    };
+    assert_eq!(rt; function.node(1), inner);
+    Ok(())
 }
 
 #[test]
-fn names_the_rule_and_the_place(rt: HostRuntime) {
-    let rows = [
-        // (where, what, rule, offset) in the first object
-        (0, 1, 2, 0),
-        (20, 95, 3, 20),
-        (24, 111, 3, 24),
-        (92, 175, 4, 92),
-        (28, 119, 5, 24),
-        (16, 8, 6, 16),
-        // Hash begins four bytes before RelocIdx, which then has one entry
-        (64, 145, 8, 60),
-        (68, 145, 9, 64),
-        // and AuxIdx
-        (72, 153, 9, 68),
-        // an entry above the next one, in RelocIdx and AuxIdx
-        (141, 1, 10, 145),
-        (149, 1, 10, 153),
-        // the last entry past the records, in each table
-        (145, 1, 10, 145),
-        (153, 1, 10, 153),
-        (161, 10, 10, 161),
-        (120, 79, 11, 120),
-        // an empty string past the end
-        (116, 175, 11, 112),
-        (120, 78, 12, 120),
-        (133, 8, 14, 120),
-        (137, 3, 16, 120),
-        (138, 0x20, 16, 120),
+fn numbers_have_names(rt: HostRuntime) {
+    assert_eq!(rt; Abi::of(65535), Some(Abi::Static));
+    assert_eq!(rt; SymKind::of(7), Some(SymKind::TlsBss));
+    assert_eq!(rt; AuxKind::of(10), Some(AuxKind::PcInline));
+    assert_eq!(rt; RelocKind::PcRel.standard_number(), 3);
+}
+
+#[test]
+fn flags_have_names(rt: HostRuntime) {
+    let symbol = SymRec {
+        name: b"",
+        abi: 0,
+        kind: 2,
+        flag: 0b0010_0101,
+        flag2: 0b0000_1001,
+        size: 0,
+        align: 0,
+    };
+    let first = [
+        symbol.is_dupok(),
+        symbol.is_local(),
+        symbol.is_typelink(),
+        symbol.is_leaf(),
+        symbol.is_nosplit(),
+        symbol.is_reflectmethod(),
+        symbol.is_gotype(),
     ];
-    for (at, value, rule, offset) in rows {
-        assert_eq!(rt;
-            least_with(at, value),
-            Some((rule, offset)),
-            "{value} at {at}"
-        );
-    }
-    let rows = [
-        // (where, what, rule, offset) in the second object
-        (60, 0x14, 7, 56),
-        (64, 0x20, 8, 60),
-        (312, 1, 10, 312),
-        (449, 2, 11, 444),
-        (153, 22, 12, 153),
-        (383, 1, 13, 379),
-        (406, 2, 13, 402),
-        (415, 1, 13, 411),
-        (266, 2, 13, 266),
-        (266, 0, 13, 266),
-        (436, 2, 13, 436),
-        (174, 3, 14, 161),
-        (174, 4, 15, 364),
-        (387, 13, 15, 387),
-        (367, 0x80, 15, 364),
+    assert_eq!(rt; first, [true, false, true, false, false, true, false]);
+    let second = [
+        symbol.is_used_in_iface(),
+        symbol.is_itab(),
+        symbol.is_dict(),
+        symbol.is_pkginit(),
     ];
-    for (at, value, rule, offset) in rows {
-        assert_eq!(rt;
-            full_with(at, value),
-            Some((rule, offset)),
-            "{value} at {at}"
-        );
+    assert_eq!(rt; second, [true, false, false, true]);
+}
+
+// The kind of the number 7, or the first bad line.
+fn seven(text: &[u8]) -> Result<Option<RelocKind>, u32> {
+    match Numbers::parse(text) {
+        Ok(numbers) => Ok(numbers.kind(7)),
+        Err(bad) => Err(bad.line),
     }
 }
 
 #[test]
-fn looks_at_every_string(rt: HostRuntime) {
-    // where a string is named in the second object: in Autolib, PkgIdx, File, the five blocks of
-    // symbols and RefName; and a place from which a string of its length has a zero byte
+fn files_of_numbers_are_read(rt: HostRuntime) {
     let rows = [
-        (121u32, 120),
-        (145, 122),
-        (153, 120),
-        (161, 122),
-        (182, 122),
-        (203, 122),
-        (224, 122),
-        (245, 122),
-        (444, 118),
-        (460, 118),
+        (
+            b"# numbers\r\n\r\n \tADDR 7 \r\nCALL   32767".as_slice(),
+            Ok(Some(RelocKind::Addr)),
+        ),
+        (
+            b"USENAMEDMETHOD 7\n\t # CALL 7\n#\xff\n",
+            Ok(Some(RelocKind::UseNamedMethod)),
+        ),
+        (b"", Ok(None)),
+        (b"CALL 32768", Err(1)),
+        (b"CALL 07", Err(1)),
+        (b"CALL 7 8", Err(1)),
+        (b"call 7", Err(1)),
+        (b"CALL 2\nADDR 1\nCALL 3\n", Err(3)),
+        (b"CALL 2\n\nADDR 2\n", Err(3)),
     ];
-    for (at, zero) in rows {
-        // the length's highest byte
-        let place = at as usize;
-        assert_eq!(rt; full_with(place + 3, 1), Some((11, at as u64)), "{at}");
-        assert_eq!(rt; full_with(place + 4, zero), Some((12, at as u64)), "{at}");
+    for (text, wanted) in rows {
+        assert_eq!(rt; seven(text), wanted, "{text:?}");
     }
-}
-
-#[test]
-fn accepts_what_no_rule_forbids(rt: HostRuntime) {
-    // an empty string at the end; an alignment of 4096
-    assert_eq!(rt; least_with(116, 174), None);
-    assert_eq!(rt; least_with(138, 0x10), None);
-    // a string up to a zero byte; a reference to the only Hasheddef, and to a symbol that every
-    // linker knows
-    assert_eq!(rt; full_with(153, 21), None);
-    assert_eq!(rt; full_with(379, 0xfd), None);
-    assert_eq!(rt; full_with(379, 0xfc), None);
-}
-
-#[test]
-fn looks_at_the_alignment_of_references(rt: HostRuntime) {
-    // a reference without a package, at 245: the type, then the alignment
-    assert_eq!(rt; full_with(255, 1), None);
-    assert_eq!(rt; full_with(262, 3), None);
-    let mut bytes = full();
-    bytes[255] = 1;
-    bytes[262] = 3;
-    assert_eq!(rt; refusal(&bytes), Some((16, 245)));
-}
-
-#[test]
-fn says_which_rule_breaks_first(rt: HostRuntime) {
-    let mut bytes = least();
-    bytes[16] = 8;
-    bytes[157] = 10;
-    assert_eq!(rt; refusal(&bytes), Some((6, 16)));
-    bytes[16] = 0;
-    assert_eq!(rt; refusal(&bytes), Some((10, 161)));
-    // two broken rules of which the lower one stands further on
-    let mut bytes = least();
-    bytes[137] = 3;
-    bytes[141] = 1;
-    assert_eq!(rt; refusal(&bytes), Some((10, 145)));
-    // one rule broken twice
-    let mut bytes = full();
-    bytes[383] = 1;
-    bytes[266] = 2;
-    assert_eq!(rt; refusal(&bytes), Some((13, 266)));
 }

@@ -1,25 +1,27 @@
 // Objects that break no rule, read in place.
-ghost use Rattle.std.specs.Prelude.{◌≡◌, ◌+◌, ◌<◌, ◌≤◌, length, IfOk, OnOk, IfErr, OnErr};
+ghost use Rattle.std.specs.Prelude.{◌≡◌, ◌+◌, ◌<◌, ◌≤◌, length, IsTrue, IfOk, OnOk, IfErr, OnErr};
 ghost use Rattle.std.specs.Option.{option_copied};
+ghost use Rattle.glk_base.specs.Rules.{FirstBroken};
 ghost use Rattle.glk_obj.specs.Blocks.{count as count_of, autolib, pkg_idx, file, ref_flags, hash64, hasheddef, ref_name as ref_name_block};
 ghost use Rattle.glk_obj.specs.Object.{IsObject};
-ghost use Rattle.glk_obj.specs.Positive.{IsTarget, StandsIn};
-ghost use Rattle.glk_obj.specs.Records.{fingerprint, flags, symbols, definitions, symbol_at, data_at, data_length, reloc_count, reloc_at, aux_count, aux_at, autolib_at, pkg_at, file_at, hash64_at, hash_at, ref_flags_at, ref_name, ref_at, text_at, ref_name_place};
-ghost use Rattle.glk_obj.specs.Rules.{IsFirst, IsContentKind, IsAlign};
+ghost use Rattle.glk_obj.specs.Positive.{IsTarget, HasDataWithin, HasFieldWithin};
+ghost use Rattle.glk_obj.specs.References.{in_range};
+ghost use Rattle.glk_obj.specs.Records.{fingerprint, flags, symbols, definitions, symbol_at, data_at, data_length, reloc_count, reloc_at, aux_count, aux_at, autolib_at, pkg_at, file_at, hash64_at, hash_at, ref_flags_at, ref_name, ref_name_at, hash_width};
+ghost use Rattle.glk_obj.specs.Rules.{Breaks, IsContentKind, IsAlign};
 ghost use Rattle.glk_obj.specs.Views.{IsShapeOf, number_of, ref_view, symbol_view, reloc_view, aux_view, ref_flags_view};
 
 use crate::blocks::{Block, FINGERPRINT, FLAGS, Offsets, count};
-use crate::definitions::check;
-use crate::places::{
-    aux_place, data_part, eight_bytes, entries, find_name, hash_part, named_place, record_place,
-    ref_flags_place, ref_name_place, reloc_place, symbol_of,
+use crate::check::{ObjBad, check};
+use crate::offsets::{
+    aux_offset, data_part, eight_bytes, entries, find_name, hash_part, named_offset, record_offset,
+    ref_flags_offset, ref_name_offset, reloc_offset, symbol_of,
 };
 use crate::records::{
     AuxRec, RefFlagsRec, RelocRec, SymRec, SymRef, auxiliary, reference, reference_flags,
     relocation,
 };
-use crate::references::text;
-use crate::rules::{ObjBad, definitions as definition_count, symbols as symbol_count};
+use crate::references::{ReferenceRange, text};
+use crate::rules::{definitions as definition_count, symbols as symbol_count};
 use glk_base::le32;
 use std::marker::Model;
 
@@ -31,14 +33,18 @@ pub struct ObjShape {
 }
 
 impl ObjShape {
-    /// The shape of an object, or the first rule that the bytes break and the least place at which
-    /// they break it. The time is linear in the bytes, but for the strings: of each that is named at
-    /// most one block is read, 64 bytes or a 16,384th part of the object, and of a small object a
-    /// 256th, however long the string is and however many records share it.
+    /// The shape of an object. The time is linear in the bytes, but for the strings: of each that is
+    /// named at most one chunk is read, 64 bytes or a 16,384th part of the object, and of a small
+    /// object a 256th, however long the string is and however many records share it.
+    ///
+    /// # Errors
+    ///
+    /// The first of the rules V1 to V16 that the bytes break, and the least offset at which they
+    /// break it.
     pub fn check(bytes: &[u8]) -> Result<ObjShape, ObjBad>
         ensures ok { IfOk result (IsShapeOf bytes.now) }
         ensures object { OnOk result (IsObject bytes.now) }
-        ensures err { IfErr result (λ bad. IsFirst bytes.now bad.rule bad.offset) }
+        ensures err { IfErr result (λ bad. FirstBroken (Breaks bytes.now) bad.rule bad.offset) }
         ensures refused { OnErr result (¬ IsObject bytes.now) }
     {
         check(bytes)?;
@@ -78,19 +84,23 @@ impl<'a> Model for ObjView<'a> {
 }
 
 impl<'a> ObjView<'a> {
-    /// The object in these bytes, or the first rule that they break and the least place at which
-    /// they break it. The time is that of `ObjShape::check`.
+    /// The object in these bytes. The time is that of `ObjShape::check`.
+    ///
+    /// # Errors
+    ///
+    /// The first of the rules V1 to V16 that the bytes break, and the least offset at which they
+    /// break it.
     pub fn read(bytes: &'a [u8]) -> Result<ObjView<'a>, ObjBad>
         ensures ok { IfOk result (λ o. o ≡ bytes.now) }
         ensures object { OnOk result (IsObject bytes.now) }
-        ensures err { IfErr result (λ bad. IsFirst bytes.now bad.rule bad.offset) }
+        ensures err { IfErr result (λ bad. FirstBroken (Breaks bytes.now) bad.rule bad.offset) }
         ensures refused { OnErr result (¬ IsObject bytes.now) }
     {
         let shape = ObjShape::check(bytes)?;
         Ok(shape.view(bytes))
     }
 
-    /// The bytes that tell this compilation of the package from another.
+    /// The bytes by which this compilation of the package differs from others.
     pub fn fingerprint(&self) -> [u8; 8]
         ensures { result ≡ fingerprint self.now }
     {
@@ -140,7 +150,7 @@ impl<'a> ObjView<'a> {
         ensures path { result.0.now ≡ (autolib_at self.now k).path }
         ensures fingerprint { result.1 ≡ (autolib_at self.now k).fingerprint }
     {
-        let at = named_place(
+        let at = named_offset(
             self.bytes,
             Block::Autolib,
             self.offsets.of(Block::Autolib),
@@ -155,7 +165,7 @@ impl<'a> ObjView<'a> {
         requires { k < count_of self.now pkg_idx }
         ensures { result.now ≡ pkg_at self.now k }
     {
-        let at = named_place(self.bytes, Block::PkgIdx, self.offsets.of(Block::PkgIdx), k);
+        let at = named_offset(self.bytes, Block::PkgIdx, self.offsets.of(Block::PkgIdx), k);
         text(self.bytes, at)
     }
 
@@ -165,7 +175,7 @@ impl<'a> ObjView<'a> {
         requires { k < count_of self.now file }
         ensures { result.now ≡ file_at self.now k }
     {
-        let at = named_place(self.bytes, Block::File, self.offsets.of(Block::File), k);
+        let at = named_offset(self.bytes, Block::File, self.offsets.of(Block::File), k);
         text(self.bytes, at)
     }
 
@@ -186,7 +196,7 @@ impl<'a> ObjView<'a> {
         ensures object { IsObject self.now }
         ensures value { result.now ≡ data_at self.now i }
         ensures len { length result.now ≡ data_length self.now i }
-        ensures within { IsContentKind (symbol_at self.now i).kind → length result.now ≤ (symbol_at self.now i).size }
+        ensures within { HasDataWithin (symbol_at self.now i) (length result.now) }
     {
         let (from, to) = entries(
             self.bytes,
@@ -218,7 +228,7 @@ impl<'a> ObjView<'a> {
         requires index { k < reloc_count self.now i }
         ensures value { reloc_view result ≡ reloc_at self.now i k }
         ensures target { IsTarget self.now (ref_view result.target) }
-        ensures within { IsContentKind (symbol_at self.now i).kind → StandsIn (symbol_at self.now i) (reloc_view result) }
+        ensures within { HasFieldWithin (symbol_at self.now i) (reloc_view result) }
     {
         let (from, _) = entries(
             self.bytes,
@@ -226,7 +236,7 @@ impl<'a> ObjView<'a> {
             self.offsets.of(Block::RelocIdx),
             i,
         );
-        let at = reloc_place(self.bytes, self.offsets.of(Block::Reloc), from, i, k);
+        let at = reloc_offset(self.bytes, self.offsets.of(Block::Reloc), from, i, k);
         relocation(self.bytes, at)
     }
 
@@ -248,7 +258,7 @@ impl<'a> ObjView<'a> {
         ensures target { IsTarget self.now (ref_view result.target) }
     {
         let (from, _) = entries(self.bytes, Block::AuxIdx, self.offsets.of(Block::AuxIdx), i);
-        let at = aux_place(self.bytes, self.offsets.of(Block::Aux), from, i, k);
+        let at = aux_offset(self.bytes, self.offsets.of(Block::Aux), from, i, k);
         auxiliary(self.bytes, at)
     }
 
@@ -258,7 +268,7 @@ impl<'a> ObjView<'a> {
         requires { k < count_of self.now hash64 }
         ensures { result ≡ hash64_at self.now k }
     {
-        let at = record_place(self.bytes, Block::Hash64, self.offsets.of(Block::Hash64), k);
+        let at = record_offset(self.bytes, Block::Hash64, self.offsets.of(Block::Hash64), k);
         eight_bytes(self.bytes, at)
     }
 
@@ -273,13 +283,35 @@ impl<'a> ObjView<'a> {
         hash_part(self.bytes, start, extent, hashes, k)
     }
 
+    /// The width of the long hashes in bytes, from 8 to 64, where there are any.
+    #[tactic(auto, unfolding(crate::specs::Records::hash_width))]
+    pub fn hash_width(&self) -> Option<u32>
+        ensures { result ≡ hash_width self.now }
+    {
+        let hashes = count(self.bytes, Block::Hasheddef);
+        if hashes == 0 {
+            return None;
+        }
+        let extent = self.offsets.of(Block::RelocIdx) - self.offsets.of(Block::Hash);
+        Some(extent / hashes)
+    }
+
+    /// Whether a reference is in range in the object, as rule V13 wants it of those in records. It
+    /// serves references inside data, which no rule looks at.
+    pub fn in_range(&self, r: SymRef) -> bool
+        ensures value { result ≡ in_range self.now (ref_view r) }
+        ensures target { IsTrue result → IsTarget self.now (ref_view r) }
+    {
+        ReferenceRange::of(self.bytes).has(self.bytes, r)
+    }
+
     /// Flags record `k` of symbols of other packages.
     pub fn ref_flags(&self, k: u32) -> RefFlagsRec
         requires { k < count_of self.now ref_flags }
         ensures value { ref_flags_view result ≡ ref_flags_at self.now k }
         ensures target { IsTarget self.now (ref_view result.target) }
     {
-        let at = ref_flags_place(self.bytes, self.offsets.of(Block::RefFlags), k);
+        let at = ref_flags_offset(self.bytes, self.offsets.of(Block::RefFlags), k);
         reference_flags(self.bytes, at)
     }
 
@@ -296,14 +328,15 @@ impl<'a> ObjView<'a> {
         )
     }
 
-    /// Record `k` of RefName: a symbol of another package, and its name.
+    /// Record `k` of RefName: a symbol of another package, and its name. So a caller with many names
+    /// to look up can make an index of them.
     #[tactic(auto, unfolding(crate::specs::Blocks::width_of))]
-    pub fn ref_name_record(&self, k: u32) -> (SymRef, &'a [u8])
+    pub fn ref_name_at(&self, k: u32) -> (SymRef, &'a [u8])
         requires { k < count_of self.now ref_name_block }
-        ensures target { ref_view result.0 ≡ ref_at self.now (ref_name_place self.now k) }
-        ensures name { result.1.now ≡ text_at self.now (ref_name_place self.now k + 8) }
+        ensures target { ref_view result.0 ≡ (ref_name_at self.now k).target }
+        ensures name { result.1.now ≡ (ref_name_at self.now k).name }
     {
-        let at = ref_name_place(self.bytes, self.offsets.of(Block::RefName), k);
+        let at = ref_name_offset(self.bytes, self.offsets.of(Block::RefName), k);
         (reference(self.bytes, at), text(self.bytes, at + 8))
     }
 }

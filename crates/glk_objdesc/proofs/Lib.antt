@@ -1,10 +1,11 @@
-pub mod Told
+pub mod Clamped
 pub mod Lists
 pub mod PoolLemmas
+pub mod Names
 pub mod WriteLemmas
 pub mod Describing
 pub mod SizeLemmas
-pub mod Standing
+pub mod Rows
 pub mod Placed
 pub mod ReadBack
 pub mod DefsBack

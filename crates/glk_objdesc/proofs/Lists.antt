@@ -15,9 +15,9 @@ each_more {X} f k before after x e pushed is =
 -- the same from 1 on
 pub each_more_one : {X : Type 0} (f : ℕ → X) (k : ℕ) (before after : List X) (x : X) → 1 ≤ k → before ≡ each_from f 1 (k - 1) → after ≡ before ++ x ∷ [] → x ≡ f k → after ≡ each_from f 1 (k + 1 - 1)
 each_more_one {X} f k before after x low e pushed is =
-    let place : k - 1 + 1 ≡ k + 1 - 1 = omega arith in
+    let offset : k - 1 + 1 ≡ k + 1 - 1 = omega arith in
     pushed ∙ ap (λ (xs : List X). xs ++ x ∷ []) e ∙ ap (λ (y : X). each_from f 1 (k - 1) ++ y ∷ []) is ∙ sym (map-range_with_len_more f 1 (k - 1) k (omega arith))
-    ∙ ap (λ (n : ℕ). each_from f 1 n) place
+    ∙ ap (λ (n : ℕ). each_from f 1 n) offset
 
 -- two counts that do not differ
 pub not_other : (m n : ℕ) → ((m ≡ n → ⊥) → ⊥) → m ≡ n

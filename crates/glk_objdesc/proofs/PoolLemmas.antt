@@ -1,4 +1,4 @@
--- Strings of first use: one more string, and the place of a string.
+-- Strings of first use: one more string, and the offset of a string.
 use Rattle.std.proofs.Common.{◌≡◌, ◌∙◌, ℕ, ◌+◌, ◌-◌, ◌^◌, ◌≤◌, min, List, [], ◌∷◌, ◌++◌, length, map, Bool, true, false, cond, Option, Some, None, refl, sym, ap, subst, arith, append_assoc, length-append}
 use Rattle.std.specs.Prelude.{◌==◌, unwrap_or}
 use Rattle.std.proofs.lemmas.List.{append-nil, map-append}
@@ -7,10 +7,10 @@ use Rattle.std.proofs.lemmas.Map.Text.{hash_map_updates_str}
 use Rattle.std.specs.HashMap.{HashMap, get_by, UpdatesBy}
 use Rattle.std.specs.Str.{bytes_eq}
 use denote.Ref.{Bor}
-use Rattle.glk_objdesc.specs.FirstUse.{stands, with_first, with_each, joined, place_of}
-use Rattle.glk_objdesc.specs.Canonical.{told, text_place, object_limit, pool_of, all_pkgs, autolib_path, def_name, sym_name, ref_name}
+use Rattle.glk_objdesc.specs.FirstUse.{is_among, with_first, with_each, concat_of, offset_in}
+use Rattle.glk_objdesc.specs.Canonical.{clamped, text_offset, object_limit, pool_of, all_pkgs, autolib_path, def_name, sym_name, ref_name}
 use Rattle.glk_objdesc.specs.declared.desc.ObjDesc.{ObjDesc}
-use Rattle.glk_objdesc.specs.Views.{seen, Fits}
+use Rattle.glk_objdesc.specs.Views.{texts_of, Fits}
 
 pub bytes_same : (x q : List ℕ) → bytes_eq x q ≡ true → x ≡ q
 bytes_same x q is = let d = bytes_eq-Decides x q in grind (arith, d, is)
@@ -26,33 +26,33 @@ some_true : (b : Bool) (n at : ℕ) → cond b (Some n) None ≡ Some at → b �
 some_true true n at is = refl
 some_true false n at is = let bad : None ≡ Some at = is in cc
 
-pub joined_push : (xs : List (List ℕ)) (q : List ℕ) → joined (xs ++ q ∷ []) ≡ joined xs ++ q
-unfolding joined
-joined_push [] q = append-nil q
-joined_push (x ∷ xs) q = ap (λ r. x ++ r) (joined_push xs q) ∙ sym (append_assoc x (joined xs) q)
+pub concat_push : (xs : List (List ℕ)) (q : List ℕ) → concat_of (xs ++ q ∷ []) ≡ concat_of xs ++ q
+unfolding concat_of
+concat_push [] q = append-nil q
+concat_push (x ∷ xs) q = ap (λ r. x ++ r) (concat_push xs q) ∙ sym (append_assoc x (concat_of xs) q)
 
 either_true : (b t : Bool) → cond b true t ≡ false → (b ≡ false) × (t ≡ false)
 either_true true t is = let bad : true ≡ false = is in (cc, cc)
 either_true false t is = (refl, is)
 
--- the place of a string that does not stand there is the end
-pub place_absent : (xs : List (List ℕ)) (q : List ℕ) → stands xs q ≡ false → place_of xs q ≡ length (joined xs)
-unfolding stands joined place_of
-place_absent [] q is = refl
-place_absent (x ∷ xs) q is =
-    let both = either_true (bytes_eq x q) (stands xs q) is in
-    rw both.0 (ap (λ n. length x + n) (place_absent xs q both.1) ∙ sym (length-append x (joined xs)))
+-- the offset of a string that is not there is the end
+pub offset_absent : (xs : List (List ℕ)) (q : List ℕ) → is_among xs q ≡ false → offset_in xs q ≡ length (concat_of xs)
+unfolding is_among concat_of offset_in
+offset_absent [] q is = refl
+offset_absent (x ∷ xs) q is =
+    let both = either_true (bytes_eq x q) (is_among xs q) is in
+    rw both.0 (ap (λ n. length x + n) (offset_absent xs q both.1) ∙ sym (length-append x (concat_of xs)))
 
-place_le_by : (b : Bool) (l n m : ℕ) → n ≤ m → cond b 0 (l + n) ≤ l + m
-place_le_by true l n m h = omega arith
-place_le_by false l n m h = omega arith
+offset_le_by : (b : Bool) (l n m : ℕ) → n ≤ m → cond b 0 (l + n) ≤ l + m
+offset_le_by true l n m h = omega arith
+offset_le_by false l n m h = omega arith
 
-pub place_le : (xs : List (List ℕ)) (q : List ℕ) → place_of xs q ≤ length (joined xs)
-unfolding joined place_of
-place_le [] q = omega arith
-place_le (x ∷ xs) q =
-    let size = length-append x (joined xs) in
-    let h = place_le_by (bytes_eq x q) (length x) (place_of xs q) (length (joined xs)) (place_le xs q) in
+pub offset_le : (xs : List (List ℕ)) (q : List ℕ) → offset_in xs q ≤ length (concat_of xs)
+unfolding concat_of offset_in
+offset_le [] q = omega arith
+offset_le (x ∷ xs) q =
+    let size = length-append x (concat_of xs) in
+    let h = offset_le_by (bytes_eq x q) (length x) (offset_in xs q) (length (concat_of xs)) (offset_le xs q) in
     omega (arith, h, size)
 
 push_by : (b t e : Bool) → cond b true (cond t true e) ≡ cond (cond b true t) true e
@@ -63,32 +63,32 @@ last_by : (e : Bool) → cond e true false ≡ cond false true e
 last_by true = refl
 last_by false = refl
 
-pub stands_push : (xs : List (List ℕ)) (q p : List ℕ) → stands (xs ++ q ∷ []) p ≡ cond (stands xs p) true (bytes_eq q p)
-unfolding stands
+pub stands_push : (xs : List (List ℕ)) (q p : List ℕ) → is_among (xs ++ q ∷ []) p ≡ cond (is_among xs p) true (bytes_eq q p)
+unfolding is_among
 stands_push [] q p = last_by (bytes_eq q p)
-stands_push (x ∷ xs) q p = ap (λ r. cond (bytes_eq x p) true r) (stands_push xs q p) ∙ push_by (bytes_eq x p) (stands xs p) (bytes_eq q p)
+stands_push (x ∷ xs) q p = ap (λ r. cond (bytes_eq x p) true r) (stands_push xs q p) ∙ push_by (bytes_eq x p) (is_among xs p) (bytes_eq q p)
 
 -- a string stays where it is
-pub place_stays : (xs ys : List (List ℕ)) (p : List ℕ) → stands xs p ≡ true → place_of (xs ++ ys) p ≡ place_of xs p
-unfolding stands place_of
-place_stays [] ys p is = let bad : false ≡ true = is in cc
-place_stays (x ∷ xs) ys p is = stays_by (bytes_eq x p) (stands xs p) (length x) (place_of (xs ++ ys) p) (place_of xs p) is (λ h. place_stays xs ys p h)
+pub offset_stays : (xs ys : List (List ℕ)) (p : List ℕ) → is_among xs p ≡ true → offset_in (xs ++ ys) p ≡ offset_in xs p
+unfolding is_among offset_in
+offset_stays [] ys p is = let bad : false ≡ true = is in cc
+offset_stays (x ∷ xs) ys p is = stays_by (bytes_eq x p) (is_among xs p) (length x) (offset_in (xs ++ ys) p) (offset_in xs p) is (λ h. offset_stays xs ys p h)
   where
     stays_by : (b t : Bool) (l m n : ℕ) → cond b true t ≡ true → (t ≡ true → m ≡ n) → cond b 0 (l + m) ≡ cond b 0 (l + n)
     stays_by true t l m n is h = refl
     stays_by false t l m n is h = ap (λ k. l + k) (h is)
 
-place_here_by : (b t : Bool) (l m n : ℕ) → cond b true t ≡ false → (t ≡ false → m ≡ n) → cond b 0 (l + m) ≡ l + n
-place_here_by true t l m n is h = let bad : true ≡ false = is in cc
-place_here_by false t l m n is h = ap (λ k. l + k) (h is)
+offset_here_by : (b t : Bool) (l m n : ℕ) → cond b true t ≡ false → (t ≡ false → m ≡ n) → cond b 0 (l + m) ≡ l + n
+offset_here_by true t l m n is h = let bad : true ≡ false = is in cc
+offset_here_by false t l m n is h = ap (λ k. l + k) (h is)
 
--- a new string stands at the end
-pub place_new : (xs : List (List ℕ)) (q : List ℕ) → stands xs q ≡ false → place_of (xs ++ q ∷ []) q ≡ length (joined xs)
-unfolding stands joined place_of
-place_new [] q is = rw (bytes_itself q) refl
-place_new (x ∷ xs) q is =
-    place_here_by (bytes_eq x q) (stands xs q) (length x) (place_of (xs ++ q ∷ []) q) (length (joined xs)) is (λ h. place_new xs q h)
-    ∙ sym (length-append x (joined xs))
+-- a new string is at the end
+pub offset_new : (xs : List (List ℕ)) (q : List ℕ) → is_among xs q ≡ false → offset_in (xs ++ q ∷ []) q ≡ length (concat_of xs)
+unfolding is_among concat_of offset_in
+offset_new [] q is = rw (bytes_itself q) refl
+offset_new (x ∷ xs) q is =
+    offset_here_by (bytes_eq x q) (is_among xs q) (length x) (offset_in (xs ++ q ∷ []) q) (length (concat_of xs)) is (λ h. offset_new xs q h)
+    ∙ sym (length-append x (concat_of xs))
 
 merged : (e t : Bool) (size n m : ℕ) → (e ≡ true → (t ≡ false) × (size ≡ m)) → (t ≡ true → n ≡ m)
     → cond e (Some size) (cond t (Some n) None) ≡ cond (cond t true e) (Some m) None
@@ -98,34 +98,34 @@ merged false true size n m h g = ap (λ k. Some k) (g refl)
 merged false false size n m h g = refl
 
 pub at_more : {S : Type 0} (m n : HashMap (Bor (List ℕ)) ℕ S) (xs : List (List ℕ)) (q : List ℕ) (size : ℕ)
-    → Fits xs m size → stands xs q ≡ false
+    → Fits xs m size → is_among xs q ≡ false
     → UpdatesBy (λ x y. bytes_eq x.now y.now) (λ k. bytes_eq q k.now) m n (Some size)
-    → (p : List ℕ) → get_by (λ k. bytes_eq p k.now) n ≡ cond (stands (xs ++ q ∷ []) p) (Some (told (place_of (xs ++ q ∷ []) p))) None
+    → (p : List ℕ) → get_by (λ k. bytes_eq p k.now) n ≡ cond (is_among (xs ++ q ∷ []) p) (Some (clamped (offset_in (xs ++ q ∷ []) p))) None
 at_more m n xs q size fits none updates p =
     hash_map_updates_str q m n (Some size) updates p ∙ ap (λ r. cond (bytes_eq q p) (Some size) r) (fits.at p)
-    ∙ merged (bytes_eq q p) (stands xs p) size (told (place_of xs p)) (told (place_of (xs ++ q ∷ []) p))
+    ∙ merged (bytes_eq q p) (is_among xs p) size (clamped (offset_in xs p)) (clamped (offset_in (xs ++ q ∷ []) p))
     (λ same.
     let e : q ≡ p = bytes_same q p same in (
-      subst (λ (k : List ℕ). stands xs k ≡ false) e none,
-      fits.size_is ∙ ap told (sym (place_new xs q none)) ∙ ap (λ (k : List ℕ). told (place_of (xs ++ q ∷ []) k)) e,
+      subst (λ (k : List ℕ). is_among xs k ≡ false) e none,
+      fits.size_is ∙ ap clamped (sym (offset_new xs q none)) ∙ ap (λ (k : List ℕ). clamped (offset_in (xs ++ q ∷ []) k)) e,
     ))
-    (λ there. ap told (sym (place_stays xs (q ∷ []) p there)))
-    ∙ ap (λ t. cond t (Some (told (place_of (xs ++ q ∷ []) p))) None) (sym (stands_push xs q p))
+    (λ there. ap clamped (sym (offset_stays xs (q ∷ []) p there)))
+    ∙ ap (λ t. cond t (Some (clamped (offset_in (xs ++ q ∷ []) p))) None) (sym (stands_push xs q p))
 
-pub size_more : (xs : List (List ℕ)) (q : List ℕ) (size more : ℕ) → size ≡ told (length (joined xs)) → more ≡ min (size + length q) (2 ^ 64 - 1)
-    → more ≡ told (length (joined (xs ++ q ∷ [])))
-unfolding told
-size_more xs q size more e is = omega (arith, e, is, ap length (joined_push xs q), length-append (joined xs) q)
+pub size_more : (xs : List (List ℕ)) (q : List ℕ) (size more : ℕ) → size ≡ clamped (length (concat_of xs)) → more ≡ min (size + length q) (2 ^ 64 - 1)
+    → more ≡ clamped (length (concat_of (xs ++ q ∷ [])))
+unfolding clamped
+size_more xs q size more e is = omega (arith, e, is, ap length (concat_push xs q), length-append (concat_of xs) q)
 
-pub seen_push : (now reserved strings : List (Bor (List ℕ))) (e : Bor (List ℕ)) → now ≡ reserved ++ e ∷ [] → reserved ≡ strings → seen now ≡ seen strings ++ e.now ∷ []
-seen_push now reserved strings e pushed same = ap seen pushed ∙ ap (λ (s : List (Bor (List ℕ))). seen (s ++ e ∷ [])) same ∙ map-append (λ (b : Bor (List ℕ)). b.now) strings (e ∷ [])
+pub texts_push : (now reserved strings : List (Bor (List ℕ))) (e : Bor (List ℕ)) → now ≡ reserved ++ e ∷ [] → reserved ≡ strings → texts_of now ≡ texts_of strings ++ e.now ∷ []
+texts_push now reserved strings e pushed same = ap texts_of pushed ∙ ap (λ (s : List (Bor (List ℕ))). texts_of (s ++ e ∷ [])) same ∙ map-append (λ (b : Bor (List ℕ)). b.now) strings (e ∷ [])
 
--- a string that is noted nowhere does not stand there
-pub not_noted : {S : Type 0} (m : HashMap (Bor (List ℕ)) ℕ S) (xs : List (List ℕ)) (q : List ℕ) (size : ℕ) → Fits xs m size → None ≡ get_by (λ k. bytes_eq q k.now) m → stands xs q ≡ false
-not_noted m xs q size fits none = none_false (stands xs q) (told (place_of xs q)) (sym (fits.at q) ∙ sym none)
+-- a string that is noted nowhere is not there
+pub not_noted : {S : Type 0} (m : HashMap (Bor (List ℕ)) ℕ S) (xs : List (List ℕ)) (q : List ℕ) (size : ℕ) → Fits xs m size → None ≡ get_by (λ k. bytes_eq q k.now) m → is_among xs q ≡ false
+not_noted m xs q size fits none = none_false (is_among xs q) (clamped (offset_in xs q)) (sym (fits.at q) ∙ sym none)
 
-pub noted : {S : Type 0} (m : HashMap (Bor (List ℕ)) ℕ S) (xs : List (List ℕ)) (q : List ℕ) (size at : ℕ) → Fits xs m size → Some at ≡ get_by (λ k. bytes_eq q k.now) m → stands xs q ≡ true
-noted m xs q size at fits some = some_true (stands xs q) (told (place_of xs q)) at (sym (fits.at q) ∙ sym some)
+pub noted : {S : Type 0} (m : HashMap (Bor (List ℕ)) ℕ S) (xs : List (List ℕ)) (q : List ℕ) (size at : ℕ) → Fits xs m size → Some at ≡ get_by (λ k. bytes_eq q k.now) m → is_among xs q ≡ true
+noted m xs q size at fits some = some_true (is_among xs q) (clamped (offset_in xs q)) at (sym (fits.at q) ∙ sym some)
 
 pub fits_more : {S : Type 0} (m n : HashMap (Bor (List ℕ)) ℕ S) (xs ys : List (List ℕ)) (q : List ℕ) (size more : ℕ)
     → Fits xs m size → None ≡ get_by (λ k. bytes_eq q k.now) m → ys ≡ xs ++ q ∷ []
@@ -138,11 +138,11 @@ pub first_empty : (xs : List (List ℕ)) (q : List ℕ) → (length q == 0) ≡ 
 unfolding with_first
 first_empty xs q is = rw is refl
 
-pub first_old : (xs : List (List ℕ)) (q : List ℕ) → (length q == 0) ≡ false → stands xs q ≡ true → xs ≡ with_first xs q
+pub first_old : (xs : List (List ℕ)) (q : List ℕ) → (length q == 0) ≡ false → is_among xs q ≡ true → xs ≡ with_first xs q
 unfolding with_first
 first_old xs q full is = rw (full, is) refl
 
-pub first_new : (xs : List (List ℕ)) (q : List ℕ) → (length q == 0) ≡ false → stands xs q ≡ false → xs ++ q ∷ [] ≡ with_first xs q
+pub first_new : (xs : List (List ℕ)) (q : List ℕ) → (length q == 0) ≡ false → is_among xs q ≡ false → xs ++ q ∷ [] ≡ with_first xs q
 unfolding with_first
 first_new xs q full is = rw (full, is) refl
 
@@ -160,26 +160,26 @@ value_by : (b : Bool) (n size : ℕ) → (b ≡ false → size ≡ n) → unwrap
 value_by true n size h = refl
 value_by false n size h = h refl
 
--- the place that is noted, or the end
-pub place_value : {S : Type 0} (m : HashMap (Bor (List ℕ)) ℕ S) (xs : List (List ℕ)) (q : List ℕ) (size : ℕ) → Fits xs m size
-    → unwrap_or (get_by (λ k. bytes_eq q k.now) m) size ≡ told (place_of xs q)
-place_value m xs q size fits =
+-- the offset that is noted, or the end
+pub offset_value : {S : Type 0} (m : HashMap (Bor (List ℕ)) ℕ S) (xs : List (List ℕ)) (q : List ℕ) (size : ℕ) → Fits xs m size
+    → unwrap_or (get_by (λ k. bytes_eq q k.now) m) size ≡ clamped (offset_in xs q)
+offset_value m xs q size fits =
     ap (λ (r : Option ℕ). unwrap_or r size) (fits.at q)
-    ∙ value_by (stands xs q) (told (place_of xs q)) size (λ none. fits.size_is ∙ ap told (sym (place_absent xs q none)))
+    ∙ value_by (is_among xs q) (clamped (offset_in xs q)) size (λ none. fits.size_is ∙ ap clamped (sym (offset_absent xs q none)))
 
-pub place_exact : (xs : List (List ℕ)) (q : List ℕ) → length (joined xs) ≤ object_limit → told (place_of xs q) ≡ place_of xs q
-unfolding told
-place_exact xs q small = omega (arith, place_le xs q)
+pub offset_exact : (xs : List (List ℕ)) (q : List ℕ) → length (concat_of xs) ≤ object_limit → clamped (offset_in xs q) ≡ offset_in xs q
+unfolding clamped
+offset_exact xs q small = omega (arith, offset_le xs q)
 
-pub place_empty : (xs : List (List ℕ)) (q : List ℕ) → (length q == 0) ≡ true → 0 ≡ text_place xs q
-unfolding text_place
-place_empty xs q is = rw is refl
+pub offset_empty : (xs : List (List ℕ)) (q : List ℕ) → (length q == 0) ≡ true → 0 ≡ text_offset xs q
+unfolding text_offset
+offset_empty xs q is = rw is refl
 
-pub place_full : (xs : List (List ℕ)) (q : List ℕ) (at : ℕ) → (length q == 0) ≡ false → at ≡ place_of xs q → 96 + at ≡ text_place xs q
-unfolding text_place
-place_full xs q at is e = rw is (ap (λ n. 96 + n) e)
+pub offset_full : (xs : List (List ℕ)) (q : List ℕ) (at : ℕ) → (length q == 0) ≡ false → at ≡ offset_in xs q → 96 + at ≡ text_offset xs q
+unfolding text_offset
+offset_full xs q at is e = rw is (ap (λ n. 96 + n) e)
 
--- more strings behind those that came already
+-- more strings after those that came already
 pub each_step : (p q front xs ys : List (List ℕ)) → p ≡ with_each [] front → q ≡ with_each p ys → ys ≡ xs → q ≡ with_each [] (front ++ xs)
 each_step p q front xs ys before step same =
     step ∙ ap (λ (d : List (List ℕ)). with_each d ys) before ∙ ap (λ (s : List (List ℕ)). with_each (with_each [] front) s) same ∙ sym (each_append [] front xs)

@@ -14,58 +14,17 @@ use Rattle.glk_objdesc.specs.declared.desc.RefNameDesc.{RefNameDesc}
 use Rattle.glk_objdesc.specs.declared.desc.ObjDesc.{ObjDesc}
 use Rattle.glk_objdesc.specs.Printable.{IsPrintable, HaveHashes}
 use Rattle.glk_objdesc.specs.Typed.{IsTyped, IsTypedPackage, IsTypedSymbol, IsTypedFlags, IsTypedName, IsTypedDef}
-use Rattle.glk_objdesc.specs.Canonical.{pool_of, strings_of, blocks_of, object_bytes, object_limit, definitions_of, hash_of, all_pkgs, autolib_bytes, name_bytes, def_bytes, symbol_bytes, ref_flags_bytes, ref_name_bytes, autolib_path, def_name, sym_name, ref_name}
-use Rattle.glk_objdesc.specs.Sizes.{IsSmall}
+use Rattle.glk_objdesc.specs.Canonical.{pool_of, blocks_of, object_bytes, object_limit, definitions_of, hash_of, all_pkgs, autolib_bytes, name_bytes, def_bytes, symbol_bytes, ref_flags_bytes, ref_name_bytes}
+use Rattle.glk_objdesc.specs.Sizes.{IsSmall, HasNames}
 use Rattle.glk_objdesc.specs.Described.{each_from, ref_desc, autolib_desc, symbol_desc, ref_flags_desc, ref_name_desc, def_desc, first_hash64, first_hashed, first_ndef, first_ref, description_of}
-use Rattle.glk_objdesc.proofs.WriteLemmas.{all_left, all_right, all_map}
-use Rattle.glk_objdesc.proofs.SizeLemmas.{small_is, small_told, length_name, length_symbol, length_ref_flags, length_ref_name}
-use Rattle.glk_objdesc.proofs.Standing.{Stands, stands_at, stands_second, range_read}
+use Rattle.glk_objdesc.proofs.Names.{names_of}
+use Rattle.glk_objdesc.proofs.SizeLemmas.{small_is, small_clamped, length_name, length_symbol, length_ref_flags, length_ref_name}
+use Rattle.glk_base.specs.BytesAt.{IsAt}
+use Rattle.glk_base.proofs.BytesAt.{is_at_same, is_at_second, range_read}
 use Rattle.glk_objdesc.proofs.Placed.{IsText, Layout, texts_are, layout_is}
 use Rattle.glk_objdesc.proofs.Describing.{each_same, same_desc}
 use Rattle.glk_objdesc.proofs.ReadBack.{name_read, package_read, symbol_read, flags_read, ref_name_read, rows_back, all_first, all_rest}
 use Rattle.glk_objdesc.proofs.DefsBack.{DefBlocks, defs_back}
-
--- ---- all names of a description
-record Names (Q : List ℕ → Type 0) (d : ObjDesc) : Type 0 where
-  pub autolib : All (λ (a : AutolibDesc). Q a.path) d.autolib
-  pub pkgs : All Q d.pkgs
-  pub files : All Q d.files
-  pub defs : All (λ (def : DefDesc). Q def.sym.name) d.defs
-  pub hash64 : All (λ (def : DefDesc). Q def.sym.name) d.hash64
-  pub hashed : All (λ (def : DefDesc). Q def.sym.name) d.hashed
-  pub ndefs : All (λ (def : DefDesc). Q def.sym.name) d.ndefs
-  pub refs : All (λ (s : SymDesc). Q s.name) d.refs
-  pub ref_names : All (λ (r : RefNameDesc). Q r.name) d.ref_names
-
-names_of : (Q : List ℕ → Type 0) (d : ObjDesc) → All Q (strings_of d) → Names Q d
-names_of Q d all =
-    let a = map autolib_path d.autolib in
-    let b = a ++ all_pkgs d in
-    let c = b ++ d.files in
-    let e = c ++ map def_name d.defs in
-    let f = e ++ map def_name d.hash64 in
-    let g = f ++ map def_name d.hashed in
-    let h = g ++ map def_name d.ndefs in
-    let i = h ++ map sym_name d.refs in
-    let ri = all_left Q i (map ref_name d.ref_names) all in
-    let rh = all_left Q h (map sym_name d.refs) ri in
-    let rg = all_left Q g (map def_name d.ndefs) rh in
-    let rf = all_left Q f (map def_name d.hashed) rg in
-    let re = all_left Q e (map def_name d.hash64) rf in
-    let rc = all_left Q c (map def_name d.defs) re in
-    let rb = all_left Q b d.files rc in
-    let ra = all_left Q a (all_pkgs d) rb in
-    record {
-      autolib = all_map Q autolib_path d.autolib ra;
-      pkgs = all_right Q ([] ∷ []) d.pkgs (all_right Q a (all_pkgs d) rb);
-      files = all_right Q b d.files rc;
-      defs = all_map Q def_name d.defs (all_right Q c (map def_name d.defs) re);
-      hash64 = all_map Q def_name d.hash64 (all_right Q e (map def_name d.hash64) rf);
-      hashed = all_map Q def_name d.hashed (all_right Q f (map def_name d.hashed) rg);
-      ndefs = all_map Q def_name d.ndefs (all_right Q g (map def_name d.ndefs) rh);
-      refs = all_map Q sym_name d.refs (all_right Q h (map sym_name d.refs) ri);
-      ref_names = all_map Q ref_name d.ref_names (all_right Q i (map ref_name d.ref_names) all);
-    }
 
 -- ---- counts
 count_is_0 : (b : List ℕ) (n : ℕ) → offset_of b 1 ≡ offset_of b 0 + 16 * n → count b 0 ≡ n
@@ -119,15 +78,15 @@ length_rows f w P wide (x ∷ xs) all =
     omega (arith, sum, here, rest, more)
 
 block_back : {X : Type 0} (f : X → List ℕ) (w : ℕ) (from : ℕ → X) (P : X → Type 0) (b : List ℕ) (start next many : ℕ) (xs : List X)
-    → ((x : X) → P x → length (f x) ≡ w) → ((at : ℕ) (x : X) → P x → Stands b at (f x) → from at ≡ x) → All P xs
-    → Stands b start (flat_map f xs) → next ≡ start + length (flat_map f xs) → ((n : ℕ) → next ≡ start + w * n → many ≡ n)
+    → ((x : X) → P x → length (f x) ≡ w) → ((at : ℕ) (x : X) → P x → IsAt b at (f x) → from at ≡ x) → All P xs
+    → IsAt b start (flat_map f xs) → next ≡ start + length (flat_map f xs) → ((n : ℕ) → next ≡ start + w * n → many ≡ n)
     → each_from (λ j. from (start + w * j)) 0 many ≡ xs
 block_back f w from P b start next many xs wide read all s e counted =
     let size = length_rows f w P wide xs all in
     let m = counted (length xs) (omega (arith, e, size)) in
     let none : w * 0 ≡ 0 = grind arith in
     ap (λ (n : ℕ). each_from (λ j. from (start + w * j)) 0 n) m
-    ∙ rows_back f w from P b start wide read xs 0 all (stands_at b _ _ _ s (omega (arith, none)))
+    ∙ rows_back f w from P b start wide read xs 0 all (is_at_same b _ _ _ s (omega (arith, none)))
 
 all_both : {X : Type 0} (P Q : X → Type 0) (xs : List X) → All P xs → All Q xs → All (λ x. P x × Q x) xs
 all_both P Q xs p q = λ k d inside. (p k d inside, q k d inside)
@@ -147,11 +106,11 @@ join_hashes (x ∷ xs) = ap (λ (r : List ℕ). x.hash ++ r) (join_hashes xs)
 hashes_have : (xs : List DefDesc) (n : ℕ) → HaveHashes xs n → All (λ h. length h ≡ n) (map hash_of xs)
 hashes_have xs n have = All-map (λ (h : List ℕ). length h ≡ n) hash_of xs have
 
-hashes_back : (b : List ℕ) (start n : ℕ) (xs : List DefDesc) → HaveHashes xs n → Stands b start (flat_map hash_of xs)
+hashes_back : (b : List ℕ) (start n : ℕ) (xs : List DefDesc) → HaveHashes xs n → IsAt b start (flat_map hash_of xs)
     → each_from (λ k. slice_range b (start + n * k) (start + n * k + n)) 0 (length xs) ≡ map hash_of xs
 hashes_back b start n xs have s =
     let none : n * 0 ≡ 0 = grind arith in
-    let t : Stands b (start + n * 0) (flat_map (λ h. h) (map hash_of xs)) = stands_at b start (start + n * 0) (flat_map (λ h. h) (map hash_of xs)) (subst (λ (y : List ℕ). Stands b start y) (sym (join_hashes xs)) s) (omega (arith, none)) in
+    let t : IsAt b (start + n * 0) (flat_map (λ h. h) (map hash_of xs)) = is_at_same b start (start + n * 0) (flat_map (λ h. h) (map hash_of xs)) (subst (λ (y : List ℕ). IsAt b start y) (sym (join_hashes xs)) s) (omega (arith, none)) in
     ap (λ (m : ℕ). each_from (λ k. slice_range b (start + n * k) (start + n * k + n)) 0 m) (sym (length-map xs hash_of))
     ∙ rows_back (λ (h : List ℕ). h) n (λ at. slice_range b at (at + n)) (λ h. length h ≡ n) b start (λ h e. e)
     (λ at h e st. range_read b at (at + n) h st (ap (λ m. at + m) (sym e))) (map hash_of xs) 0 (hashes_have xs n have) t
@@ -162,7 +121,7 @@ long_length b n xs have many e some =
     let extent : extent_of b 10 ≡ n * length xs = omega (arith, e, size) in
     ap (λ x. x / count b 5) extent ∙ ap (λ x. n * length xs / x) many ∙ mul-div_cancel n some
 
-pub long_hashes : (b : List ℕ) (n : ℕ) (xs : List DefDesc) → HaveHashes xs n → count b 5 ≡ length xs → Stands b (offset_of b 10) (flat_map hash_of xs) → offset_of b 11 ≡ offset_of b 10 + length (flat_map hash_of xs)
+pub long_hashes : (b : List ℕ) (n : ℕ) (xs : List DefDesc) → HaveHashes xs n → count b 5 ≡ length xs → IsAt b (offset_of b 10) (flat_map hash_of xs) → offset_of b 11 ≡ offset_of b 10 + length (flat_map hash_of xs)
     → each_from (hash_at b) 0 (length xs) ≡ map hash_of xs
 long_hashes b n [] have many s e = refl
 long_hashes b n (x ∷ xs) have many s e =
@@ -171,64 +130,64 @@ long_hashes b n (x ∷ xs) have many s e =
 
 -- ---- the blocks as lists of records
 record Blocks (d : ObjDesc) (b : List ℕ) : Type 0 where
-  pub stands_0 : Stands b (offset_of b 0) (flat_map (autolib_bytes (pool_of d)) d.autolib)
+  pub stands_0 : IsAt b (offset_of b 0) (flat_map (autolib_bytes (pool_of d)) d.autolib)
   pub next_0 : offset_of b 1 ≡ offset_of b 0 + length (flat_map (autolib_bytes (pool_of d)) d.autolib)
-  pub stands_1 : Stands b (offset_of b 1) (flat_map (name_bytes (pool_of d)) (all_pkgs d))
+  pub stands_1 : IsAt b (offset_of b 1) (flat_map (name_bytes (pool_of d)) (all_pkgs d))
   pub next_1 : offset_of b 2 ≡ offset_of b 1 + length (flat_map (name_bytes (pool_of d)) (all_pkgs d))
-  pub stands_2 : Stands b (offset_of b 2) (flat_map (name_bytes (pool_of d)) d.files)
+  pub stands_2 : IsAt b (offset_of b 2) (flat_map (name_bytes (pool_of d)) d.files)
   pub next_2 : offset_of b 3 ≡ offset_of b 2 + length (flat_map (name_bytes (pool_of d)) d.files)
-  pub stands_3 : Stands b (offset_of b 3) (flat_map (def_bytes (pool_of d)) d.defs)
+  pub stands_3 : IsAt b (offset_of b 3) (flat_map (def_bytes (pool_of d)) d.defs)
   pub next_3 : offset_of b 4 ≡ offset_of b 3 + length (flat_map (def_bytes (pool_of d)) d.defs)
-  pub stands_4 : Stands b (offset_of b 4) (flat_map (def_bytes (pool_of d)) d.hash64)
+  pub stands_4 : IsAt b (offset_of b 4) (flat_map (def_bytes (pool_of d)) d.hash64)
   pub next_4 : offset_of b 5 ≡ offset_of b 4 + length (flat_map (def_bytes (pool_of d)) d.hash64)
-  pub stands_5 : Stands b (offset_of b 5) (flat_map (def_bytes (pool_of d)) d.hashed)
+  pub stands_5 : IsAt b (offset_of b 5) (flat_map (def_bytes (pool_of d)) d.hashed)
   pub next_5 : offset_of b 6 ≡ offset_of b 5 + length (flat_map (def_bytes (pool_of d)) d.hashed)
-  pub stands_6 : Stands b (offset_of b 6) (flat_map (def_bytes (pool_of d)) d.ndefs)
+  pub stands_6 : IsAt b (offset_of b 6) (flat_map (def_bytes (pool_of d)) d.ndefs)
   pub next_6 : offset_of b 7 ≡ offset_of b 6 + length (flat_map (def_bytes (pool_of d)) d.ndefs)
-  pub stands_7 : Stands b (offset_of b 7) (flat_map (symbol_bytes (pool_of d)) d.refs)
+  pub stands_7 : IsAt b (offset_of b 7) (flat_map (symbol_bytes (pool_of d)) d.refs)
   pub next_7 : offset_of b 8 ≡ offset_of b 7 + length (flat_map (symbol_bytes (pool_of d)) d.refs)
-  pub stands_8 : Stands b (offset_of b 8) (flat_map ref_flags_bytes d.ref_flags)
+  pub stands_8 : IsAt b (offset_of b 8) (flat_map ref_flags_bytes d.ref_flags)
   pub next_8 : offset_of b 9 ≡ offset_of b 8 + length (flat_map ref_flags_bytes d.ref_flags)
-  pub stands_9 : Stands b (offset_of b 9) (flat_map hash_of d.hash64)
-  pub stands_10 : Stands b (offset_of b 10) (flat_map hash_of d.hashed)
+  pub stands_9 : IsAt b (offset_of b 9) (flat_map hash_of d.hash64)
+  pub stands_10 : IsAt b (offset_of b 10) (flat_map hash_of d.hashed)
   pub next_10 : offset_of b 11 ≡ offset_of b 10 + length (flat_map hash_of d.hashed)
-  pub stands_17 : Stands b (offset_of b 17) (flat_map (ref_name_bytes (pool_of d)) d.ref_names)
+  pub stands_17 : IsAt b (offset_of b 17) (flat_map (ref_name_bytes (pool_of d)) d.ref_names)
   pub next_17 : offset_of b 18 ≡ offset_of b 17 + length (flat_map (ref_name_bytes (pool_of d)) d.ref_names)
   pub defs : DefBlocks d b
 
 blocks_are : (d : ObjDesc) (b : List ℕ) → Layout d b → IsSmall d → Blocks d b
 unfolding blocks_of
 blocks_are d b l small = record {
-  stands_0 = l.stands 0 (omega arith);
+  stands_0 = l.is_among 0 (omega arith);
   next_0 = l.next 0 (omega arith);
-  stands_1 = l.stands 1 (omega arith);
+  stands_1 = l.is_among 1 (omega arith);
   next_1 = l.next 1 (omega arith);
-  stands_2 = l.stands 2 (omega arith);
+  stands_2 = l.is_among 2 (omega arith);
   next_2 = l.next 2 (omega arith);
-  stands_3 = l.stands 3 (omega arith);
+  stands_3 = l.is_among 3 (omega arith);
   next_3 = l.next 3 (omega arith);
-  stands_4 = l.stands 4 (omega arith);
+  stands_4 = l.is_among 4 (omega arith);
   next_4 = l.next 4 (omega arith);
-  stands_5 = l.stands 5 (omega arith);
+  stands_5 = l.is_among 5 (omega arith);
   next_5 = l.next 5 (omega arith);
-  stands_6 = l.stands 6 (omega arith);
+  stands_6 = l.is_among 6 (omega arith);
   next_6 = l.next 6 (omega arith);
-  stands_7 = l.stands 7 (omega arith);
+  stands_7 = l.is_among 7 (omega arith);
   next_7 = l.next 7 (omega arith);
-  stands_8 = l.stands 8 (omega arith);
+  stands_8 = l.is_among 8 (omega arith);
   next_8 = l.next 8 (omega arith);
-  stands_9 = l.stands 9 (omega arith);
-  stands_10 = l.stands 10 (omega arith);
+  stands_9 = l.is_among 9 (omega arith);
+  stands_10 = l.is_among 10 (omega arith);
   next_10 = l.next 10 (omega arith);
-  stands_17 = l.stands 17 (omega arith);
+  stands_17 = l.is_among 17 (omega arith);
   next_17 = l.next 17 (omega arith);
   defs = record {
-    reloc_table = l.stands 11 (omega arith);
-    aux_table = l.stands 12 (omega arith);
-    data_table = l.stands 13 (omega arith);
-    relocs = l.stands 14 (omega arith);
-    auxes = l.stands 15 (omega arith);
-    contents = l.stands 16 (omega arith);
+    reloc_table = l.is_among 11 (omega arith);
+    aux_table = l.is_among 12 (omega arith);
+    data_table = l.is_among 13 (omega arith);
+    relocs = l.is_among 14 (omega arith);
+    auxes = l.is_among 15 (omega arith);
+    contents = l.is_among 16 (omega arith);
     few_relocs = omega (arith, small.relocs);
     few_auxes = omega (arith, small.auxes);
     few_bytes = omega (arith, small.content);
@@ -277,7 +236,7 @@ counts_are d b s =
     }
 
 -- ---- each list of a description
-autolib_back : (d : ObjDesc) (b : List ℕ) → Blocks d b → IsTyped d → Names (IsText b (pool_of d)) d → each_from (λ k. autolib_desc (autolib_at b k)) 0 (count b 0) ≡ d.autolib
+autolib_back : (d : ObjDesc) (b : List ℕ) → Blocks d b → IsTyped d → HasNames (IsText b (pool_of d)) d → each_from (λ k. autolib_desc (autolib_at b k)) 0 (count b 0) ≡ d.autolib
 autolib_back d b s typed names =
     let pool = pool_of d in
     let P : AutolibDesc → Type 0 = λ a. IsTypedPackage a × IsText b pool a.path in
@@ -286,7 +245,7 @@ autolib_back d b s typed names =
     (λ at a good st. package_read b pool at a good.0 good.1 st)
     (all_both IsTypedPackage (λ (a : AutolibDesc). IsText b pool a.path) d.autolib typed.autolib names.autolib) s.stands_0 s.next_0 (λ n e. count_is_0 b n e)
 
-pkgs_back : (d : ObjDesc) (b : List ℕ) → Blocks d b → Names (IsText b (pool_of d)) d → each_from (pkg_at b) 1 (count b 1 - 1) ≡ d.pkgs
+pkgs_back : (d : ObjDesc) (b : List ℕ) → Blocks d b → HasNames (IsText b (pool_of d)) d → each_from (pkg_at b) 1 (count b 1 - 1) ≡ d.pkgs
 pkgs_back d b s names =
     let pool = pool_of d in
     let all = length_rows (name_bytes pool) 8 (λ (q : List ℕ). Unit {0}) (λ q u. length_name pool q) (all_pkgs d) (λ k x inside. tt) in
@@ -294,17 +253,17 @@ pkgs_back d b s names =
     let many = count_is_1 b (length (all_pkgs d)) (omega (arith, next, all)) in
     let left : count b 1 - 1 ≡ length d.pkgs = omega (arith, many) in
     let size = length_name pool [] in
-    let st : Stands b (offset_of b 1 + 8 * 1) (flat_map (name_bytes pool) d.pkgs) = stands_at b _ _ _ (stands_second b (offset_of b 1) (name_bytes pool []) (flat_map (name_bytes pool) d.pkgs) s.stands_1) (omega (arith, size)) in
+    let st : IsAt b (offset_of b 1 + 8 * 1) (flat_map (name_bytes pool) d.pkgs) = is_at_same b _ _ _ (is_at_second b (offset_of b 1) (name_bytes pool []) (flat_map (name_bytes pool) d.pkgs) s.stands_1) (omega (arith, size)) in
     ap (λ (n : ℕ). each_from (pkg_at b) 1 n) left
     ∙ rows_back (name_bytes pool) 8 (λ at. text_at b at) (IsText b pool) b (offset_of b 1) (λ q t. length_name pool q) (λ at q t h. name_read b pool at q t h) d.pkgs 1 names.pkgs st
 
-files_back : (d : ObjDesc) (b : List ℕ) → Blocks d b → Names (IsText b (pool_of d)) d → each_from (file_at b) 0 (count b 2) ≡ d.files
+files_back : (d : ObjDesc) (b : List ℕ) → Blocks d b → HasNames (IsText b (pool_of d)) d → each_from (file_at b) 0 (count b 2) ≡ d.files
 files_back d b s names =
     let pool = pool_of d in
     block_back (name_bytes pool) 8 (λ at. text_at b at) (IsText b pool) b (offset_of b 2) (offset_of b 3) (count b 2) d.files
     (λ q t. length_name pool q) (λ at q t h. name_read b pool at q t h) names.files s.stands_2 s.next_2 (λ n e. count_is_2 b n e)
 
-refs_back : (d : ObjDesc) (b : List ℕ) → Blocks d b → Counts d b → IsTyped d → Names (IsText b (pool_of d)) d → each_from (λ k. symbol_desc (symbol_at b (first_ref b + k))) 0 (count b 7) ≡ d.refs
+refs_back : (d : ObjDesc) (b : List ℕ) → Blocks d b → Counts d b → IsTyped d → HasNames (IsText b (pool_of d)) d → each_from (λ k. symbol_desc (symbol_at b (first_ref b + k))) 0 (count b 7) ≡ d.refs
 refs_back d b s c typed names =
     let pool = pool_of d in
     let P : SymDesc → Type 0 = λ x. IsTypedSymbol x × IsText b pool x.name in
@@ -324,7 +283,7 @@ ref_flags_back d b s typed =
     block_back ref_flags_bytes 10 (λ at. ref_flags_desc (ref_flags_from b at)) IsTypedFlags b (offset_of b 8) (offset_of b 9) (count b 8) d.ref_flags
     (λ r good. length_ref_flags r) (λ at r good h. flags_read b at r good h) typed.ref_flags s.stands_8 s.next_8 (λ n e. count_is_8 b n e)
 
-ref_names_back : (d : ObjDesc) (b : List ℕ) → Blocks d b → IsTyped d → Names (IsText b (pool_of d)) d → each_from (ref_name_desc b) 0 (count b 17) ≡ d.ref_names
+ref_names_back : (d : ObjDesc) (b : List ℕ) → Blocks d b → IsTyped d → HasNames (IsText b (pool_of d)) d → each_from (ref_name_desc b) 0 (count b 17) ≡ d.ref_names
 unfolding ref_name_desc
 ref_names_back d b s typed names =
     let pool = pool_of d in
@@ -335,14 +294,14 @@ ref_names_back d b s typed names =
     (all_both IsTypedName (λ (r : RefNameDesc). IsText b pool r.name) d.ref_names typed.ref_names names.ref_names) s.stands_17 s.next_17 (λ n e. count_is_17 b n e)
 
 -- definitions of a block
-group_back : (d : ObjDesc) (b : List ℕ) (m first place many : ℕ) (h : ℕ → List ℕ) → DefBlocks d b → offset_of b 3 + 21 * m ≡ place → first ≡ m
+group_back : (d : ObjDesc) (b : List ℕ) (m first offset many : ℕ) (h : ℕ → List ℕ) → DefBlocks d b → offset_of b 3 + 21 * m ≡ offset → first ≡ m
     → (xs front back : List DefDesc) → definitions_of d ≡ front ++ (xs ++ back) → m ≡ length front → many ≡ length xs
-    → All IsTypedDef xs → All (λ (def : DefDesc). IsText b (pool_of d) def.sym.name) xs → Stands b place (flat_map (def_bytes (pool_of d)) xs) → each_from h 0 (length xs) ≡ map hash_of xs
+    → All IsTypedDef xs → All (λ (def : DefDesc). IsText b (pool_of d) def.sym.name) xs → IsAt b offset (flat_map (def_bytes (pool_of d)) xs) → each_from h 0 (length xs) ≡ map hash_of xs
     → each_from (λ j. def_desc b (first + j) (h j)) 0 many ≡ xs
-group_back d b m first place many h blocks ep is xs front back split e counted typed texts s hashes =
+group_back d b m first offset many h blocks ep is xs front back split e counted typed texts s hashes =
     ap (λ (n : ℕ). each_from (λ j. def_desc b (first + j) (h j)) 0 n) counted
     ∙ ap (λ (f : ℕ). each_from (λ j. def_desc b (f + j) (h j)) 0 (length xs)) is
-    ∙ defs_back d b (pool_of d) m place h blocks ep xs front back 0 split (omega arith) typed texts (stands_at b _ _ _ s (omega arith)) hashes
+    ∙ defs_back d b (pool_of d) m offset h blocks ep xs front back 0 split (omega arith) typed texts (is_at_same b _ _ _ s (omega arith)) hashes
 
 plain_first : (b : List ℕ) (n : ℕ) → each_from (λ i. def_desc b i []) 0 n ≡ each_from (λ j. def_desc b (0 + j) []) 0 n
 plain_first b n = each_same (λ i. def_desc b i []) (λ j. def_desc b (0 + j) []) 0 n (λ k. let z : k ≡ 0 + k = omega arith in ap (λ (j : ℕ). def_desc b j []) z)
@@ -351,7 +310,7 @@ pub round_trip : (d : ObjDesc) → IsPrintable d → IsTyped d → length (objec
 unfolding description_of
 round_trip d printable typed limit =
     let b = object_bytes d in
-    let small = small_is d (length b) typed.fingerprint (sym (small_told (length b) limit)) limit in
+    let small = small_is d (length b) typed.fingerprint (sym (small_clamped (length b) limit)) limit in
     let l = layout_is d typed limit in
     let s = blocks_are d b l small in
     let c = counts_are d b s in
@@ -362,7 +321,7 @@ round_trip d printable typed limit =
     let c5 = c.hashed in
     let c6 = c.ndefs in
     let ends : d.ndefs ++ [] ≡ d.ndefs = append-nil d.ndefs in
-    let long = printable.long_hashes in
+    let u64 = printable.long_hashes in
     same_desc _ _ _ _ _ _ _ _ _ _ _ _ _ _ _ _ _ _ _ _ _ _ _ _
     l.flags l.fingerprint (autolib_back d b s typed names) (pkgs_back d b s names) (files_back d b s names)
     (plain_first b (count b 3) ∙ group_back d b 0 0 (offset_of b 3) (count b 3) (λ _. []) s.defs (omega arith) refl d.defs [] (d.hash64 ++ (d.hashed ++ d.ndefs)) refl refl c3
@@ -371,7 +330,7 @@ round_trip d printable typed limit =
     typed.hash64 names.hash64 s.stands_4 (hashes_back b (offset_of b 9) 8 d.hash64 printable.short_hashes s.stands_9))
     (group_back d b (length d.defs + length d.hash64) (first_hashed b) (offset_of b 5) (count b 5) (hash_at b) s.defs c.at_5 (omega (arith, c3, c4)) d.hashed (d.defs ++ d.hash64) d.ndefs
     (sym (append_assoc d.defs d.hash64 (d.hashed ++ d.ndefs))) (sym (length-append d.defs d.hash64)) c5
-    typed.hashed names.hashed s.stands_5 (long_hashes b long.0 d.hashed long.3 c5 s.stands_10 s.next_10))
+    typed.hashed names.hashed s.stands_5 (long_hashes b u64.0 d.hashed u64.3 c5 s.stands_10 s.next_10))
     (group_back d b (length d.defs + length d.hash64 + length d.hashed) (first_ndef b) (offset_of b 6) (count b 6) (λ _. []) s.defs c.at_6 (omega (arith, c3, c4, c5)) d.ndefs ((d.defs ++ d.hash64) ++ d.hashed) []
     (sym (append_assoc d.defs d.hash64 (d.hashed ++ d.ndefs)) ∙ sym (append_assoc (d.defs ++ d.hash64) d.hashed d.ndefs) ∙ ap (λ (x : List DefDesc). ((d.defs ++ d.hash64) ++ d.hashed) ++ x) (sym ends))
     (let e = length-append (d.defs ++ d.hash64) d.hashed in let f = length-append d.defs d.hash64 in omega (arith, e, f)) c6

@@ -14,11 +14,11 @@ use Rattle.glk_objdesc.specs.declared.desc.DefDesc.{DefDesc}
 use Rattle.glk_objdesc.specs.declared.desc.ObjDesc.{ObjDesc}
 use Rattle.glk_objdesc.specs.declared.parts.Part.{Part}
 use Rattle.glk_objdesc.specs.declared.parts.Part.TheVariants.{Hash, Content, Relocs, Auxes}
-use Rattle.glk_objdesc.specs.Fields.{words_bytes, running}
-use Rattle.glk_base.specs.Fields.{fields_bytes, word}
-use Rattle.glk_objdesc.specs.FirstUse.{joined}
-use Rattle.glk_objdesc.specs.Canonical.{told, object_limit, pool_of, autolib_bytes, name_bytes, symbol_bytes, def_bytes, ref_flags_bytes, reloc_bytes, aux_bytes, ref_name_bytes, all_pkgs, definitions_of, hash_of, content_of, relocs_bytes, auxes_bytes, amount, table_bytes, blocks_of, offsets_of, header_of, object_bytes}
-use Rattle.glk_objdesc.specs.Sizes.{IsSmall, total_of, packages_length, lengths_of, told_lengths, sum_of}
+use Rattle.glk_objdesc.specs.Fields.{u32s_bytes, prefix_sums}
+use Rattle.glk_base.specs.Fields.{fields_bytes, u32}
+use Rattle.glk_objdesc.specs.FirstUse.{concat_of}
+use Rattle.glk_objdesc.specs.Canonical.{clamped, object_limit, pool_of, autolib_bytes, name_bytes, symbol_bytes, def_bytes, ref_flags_bytes, reloc_bytes, aux_bytes, ref_name_bytes, all_pkgs, definitions_of, hash_of, content_of, relocs_bytes, auxes_bytes, amount, table_bytes, blocks_of, offsets_of, header_of, object_bytes}
+use Rattle.glk_objdesc.specs.Sizes.{IsSmall, total_of, packages_length, lengths_of, clamped_lengths, sum_of}
 use Rattle.glk_objdesc.proofs.WriteLemmas.{short_names}
 use Rattle.glk_objdesc.specs.Written.{with_named_blocks, with_other_blocks}
 
@@ -96,25 +96,25 @@ length_auxes (x ∷ xs) =
     omega (arith, all, here, rest)
 
 -- ---- tables
-pub length_words : (ns : List ℕ) → length (words_bytes ns) ≡ 4 * length ns
+pub length_u32s : (ns : List ℕ) → length (u32s_bytes ns) ≡ 4 * length ns
 unfolding fields_bytes
-length_words [] = refl
-length_words (n ∷ ns) =
-    let rest = length_words ns in
-    let all = length-append (little_bytes 4 n) (words_bytes ns) in
+length_u32s [] = refl
+length_u32s (n ∷ ns) =
+    let rest = length_u32s ns in
+    let all = length-append (little_bytes 4 n) (u32s_bytes ns) in
     omega (arith, rest, all)
 
-pub length_running : (at : ℕ) (ns : List ℕ) → length (running at ns) ≡ length ns + 1
-unfolding running
-length_running at [] = refl
-length_running at (n ∷ ns) = let h = length_running (at + n) ns in omega (arith, h)
+pub length_prefix_sums : (at : ℕ) (ns : List ℕ) → length (prefix_sums at ns) ≡ length ns + 1
+unfolding prefix_sums
+length_prefix_sums at [] = refl
+length_prefix_sums at (n ∷ ns) = let h = length_prefix_sums (at + n) ns in omega (arith, h)
 
 pub length_table : (part : Part) (d : ObjDesc) → length (table_bytes part d) ≡ 4 * (length (definitions_of d) + 1)
 unfolding table_bytes
 length_table part d =
     let amounts = map (amount part) (definitions_of d) in
-    let all = length_words (running 0 amounts) in
-    let entries = length_running 0 amounts in
+    let all = length_u32s (prefix_sums 0 amounts) in
+    let entries = length_prefix_sums 0 amounts in
     let same = length-map (definitions_of d) (amount part) in
     omega (arith, all, entries, same)
 
@@ -148,10 +148,10 @@ lengths_are d =
     refl)))))))))))))))))
 
 -- ---- the whole
-pub sum_joined : (bs : List (List ℕ)) → length (joined bs) ≡ sum_of (map length bs)
-unfolding joined sum_of
-sum_joined [] = refl
-sum_joined (b ∷ bs) = length-append b (joined bs) ∙ ap (λ n. length b + n) (sum_joined bs)
+pub sum_concat : (bs : List (List ℕ)) → length (concat_of bs) ≡ sum_of (map length bs)
+unfolding concat_of sum_of
+sum_concat [] = refl
+sum_concat (b ∷ bs) = length-append b (concat_of bs) ∙ ap (λ n. length b + n) (sum_concat bs)
 
 count_blocks : (d : ObjDesc) → length (map (length {A = ℕ}) (blocks_of d)) ≡ 18
 unfolding blocks_of
@@ -160,61 +160,61 @@ count_blocks d = refl
 pub length_header : (d : ObjDesc) → length d.fingerprint ≡ 8 → length (header_of d) ≡ 96
 unfolding header_of fields_bytes
 length_header d eight =
-    let offsets = words_bytes (offsets_of d) in
-    let flags = fields_bytes (word d.flags ∷ []) in
+    let offsets = u32s_bytes (offsets_of d) in
+    let flags = fields_bytes (u32 d.flags ∷ []) in
     let first = length-append magic (d.fingerprint ++ (flags ++ offsets)) in
     let second = length-append d.fingerprint (flags ++ offsets) in
     let third = length-append flags offsets in
-    let words = length_words (offsets_of d) in
-    let entries = length_running (96 + length (joined (pool_of d))) (map length (blocks_of d)) in
+    let words = length_u32s (offsets_of d) in
+    let entries = length_prefix_sums (96 + length (concat_of (pool_of d))) (map length (blocks_of d)) in
     let blocks = count_blocks d in
     omega (arith, eight, first, second, third, words, entries, blocks)
 
-pub length_object : (d : ObjDesc) → length d.fingerprint ≡ 8 → length (object_bytes d) ≡ 96 + length (joined (pool_of d)) + sum_of (lengths_of d)
+pub length_object : (d : ObjDesc) → length d.fingerprint ≡ 8 → length (object_bytes d) ≡ 96 + length (concat_of (pool_of d)) + sum_of (lengths_of d)
 unfolding object_bytes
 length_object d eight =
-    let first = length-append (header_of d) (joined (pool_of d) ++ joined (blocks_of d)) in
-    let second = length-append (joined (pool_of d)) (joined (blocks_of d)) in
+    let first = length-append (header_of d) (concat_of (pool_of d) ++ concat_of (blocks_of d)) in
+    let second = length-append (concat_of (pool_of d)) (concat_of (blocks_of d)) in
     let header = length_header d eight in
-    let sum : length (joined (blocks_of d)) ≡ sum_of (lengths_of d) = sum_joined (blocks_of d) ∙ ap sum_of (lengths_are d) in
+    let sum : length (concat_of (blocks_of d)) ≡ sum_of (lengths_of d) = sum_concat (blocks_of d) ∙ ap sum_of (lengths_are d) in
     omega (arith, first, second, header, sum)
 
--- ---- as it is told
-told_in : (m n s : ℕ) → told (m + (told n + s)) ≡ told (m + (n + s))
-unfolding told
-told_in m n s = omega arith
+-- ---- clamped
+clamped_in : (m n s : ℕ) → clamped (m + (clamped n + s)) ≡ clamped (m + (n + s))
+unfolding clamped
+clamped_in m n s = omega arith
 
-sum_told : (m : ℕ) (ns : List ℕ) → told (m + sum_of (map told ns)) ≡ told (m + sum_of ns)
+sum_clamped : (m : ℕ) (ns : List ℕ) → clamped (m + sum_of (map clamped ns)) ≡ clamped (m + sum_of ns)
 unfolding sum_of
-sum_told m [] = refl
-sum_told m (n ∷ ns) =
-    let e : m + (told n + sum_of (map told ns)) ≡ (m + told n) + sum_of (map told ns) = omega arith in
-    let f : (m + told n) + sum_of ns ≡ m + (told n + sum_of ns) = omega arith in
-    ap told e ∙ sum_told (m + told n) ns ∙ ap told f ∙ told_in m n (sum_of ns)
+sum_clamped m [] = refl
+sum_clamped m (n ∷ ns) =
+    let e : m + (clamped n + sum_of (map clamped ns)) ≡ (m + clamped n) + sum_of (map clamped ns) = omega arith in
+    let f : (m + clamped n) + sum_of ns ≡ m + (clamped n + sum_of ns) = omega arith in
+    ap clamped e ∙ sum_clamped (m + clamped n) ns ∙ ap clamped f ∙ clamped_in m n (sum_of ns)
 
-start_told : (strings l s : ℕ) → strings ≡ told l → told (min (96 + strings) (2 ^ 64 - 1) + s) ≡ told (96 + l + s)
-unfolding told
-start_told strings l s e = omega (arith, e)
+start_clamped : (strings l s : ℕ) → strings ≡ clamped l → clamped (min (96 + strings) (2 ^ 64 - 1) + s) ≡ clamped (96 + l + s)
+unfolding clamped
+start_clamped strings l s e = omega (arith, e)
 
 -- what the code finds is the length of the object
-pub number_is : (d : ObjDesc) (number start strings : ℕ) (lengths : List ℕ) → length d.fingerprint ≡ 8 → number ≡ told (start + sum_of lengths) → start ≡ min (96 + strings) (2 ^ 64 - 1)
-    → strings ≡ told (length (joined (pool_of d))) → lengths ≡ told_lengths d → number ≡ told (length (object_bytes d))
+pub number_is : (d : ObjDesc) (number start strings : ℕ) (lengths : List ℕ) → length d.fingerprint ≡ 8 → number ≡ clamped (start + sum_of lengths) → start ≡ min (96 + strings) (2 ^ 64 - 1)
+    → strings ≡ clamped (length (concat_of (pool_of d))) → lengths ≡ clamped_lengths d → number ≡ clamped (length (object_bytes d))
 number_is d number start strings lengths eight en es et el =
-    en ∙ ap (λ (ls : List ℕ). told (start + sum_of ls)) el ∙ ap (λ n. told (n + sum_of (told_lengths d))) es
-    ∙ start_told strings (length (joined (pool_of d))) (sum_of (told_lengths d)) et
-    ∙ sum_told (96 + length (joined (pool_of d))) (lengths_of d) ∙ ap told (sym (length_object d eight))
+    en ∙ ap (λ (ls : List ℕ). clamped (start + sum_of ls)) el ∙ ap (λ n. clamped (n + sum_of (clamped_lengths d))) es
+    ∙ start_clamped strings (length (concat_of (pool_of d))) (sum_of (clamped_lengths d)) et
+    ∙ sum_clamped (96 + length (concat_of (pool_of d))) (lengths_of d) ∙ ap clamped (sym (length_object d eight))
 
-pub small_told : (n : ℕ) → n ≤ object_limit → told n ≡ n
-unfolding told
-small_told n h = omega arith
+pub small_clamped : (n : ℕ) → n ≤ object_limit → clamped n ≡ n
+unfolding clamped
+small_clamped n h = omega arith
 
-pub exact_lengths : (ns : List ℕ) → sum_of ns ≤ object_limit → map told ns ≡ ns
+pub exact_lengths : (ns : List ℕ) → sum_of ns ≤ object_limit → map clamped ns ≡ ns
 unfolding sum_of
 exact_lengths [] small = refl
-exact_lengths (n ∷ ns) small = cons_same _ _ _ _ (small_told n (omega arith)) (exact_lengths ns (omega arith))
+exact_lengths (n ∷ ns) small = cons_same _ _ _ _ (small_clamped n (omega arith)) (exact_lengths ns (omega arith))
 
-within : (n m : ℕ) → m ≡ told n → m ≤ object_limit → n ≤ object_limit
-unfolding told
+within : (n m : ℕ) → m ≡ clamped n → m ≤ object_limit → n ≤ object_limit
+unfolding clamped
 within n m e h = omega (arith, e)
 
 relocs_within : (d : ObjDesc) → total_of Relocs (definitions_of d) ≤ sum_of (lengths_of d)
@@ -229,7 +229,7 @@ content_within : (d : ObjDesc) → total_of Content (definitions_of d) ≤ sum_o
 unfolding sum_of
 content_within d = omega arith
 
-pub small_is : (d : ObjDesc) (number : ℕ) → length d.fingerprint ≡ 8 → number ≡ told (length (object_bytes d)) → number ≤ object_limit → IsSmall d
+pub small_is : (d : ObjDesc) (number : ℕ) → length d.fingerprint ≡ 8 → number ≡ clamped (length (object_bytes d)) → number ≤ object_limit → IsSmall d
 small_is d number eight e small =
     let all = length_object d eight in
     let whole = within (length (object_bytes d)) number e small in
@@ -239,7 +239,7 @@ small_is d number eight e small =
     record {
       whole = whole;
       sum = omega (arith, all, whole);
-      strings = small_told (length (joined (pool_of d))) (omega (arith, all, whole));
+      strings = small_clamped (length (concat_of (pool_of d))) (omega (arith, all, whole));
       lengths = exact_lengths (lengths_of d) (omega (arith, all, whole)) ∙ sym (lengths_are d);
       relocs = omega (arith, all, whole, r);
       auxes = omega (arith, all, whole, a);
@@ -247,34 +247,34 @@ small_is d number eight e small =
       names = short_names d (omega (arith, all, whole));
     }
 
-past_by : (n m : ℕ) → m ≡ told n → object_limit < m → object_limit < n
-unfolding told
+past_by : (n m : ℕ) → m ≡ clamped n → object_limit < m → object_limit < n
+unfolding clamped
 past_by n m e h = omega (arith, e)
 
-pub past_is : (d : ObjDesc) (number : ℕ) → number ≡ told (length (object_bytes d)) → object_limit < number → object_limit < length (object_bytes d)
+pub past_is : (d : ObjDesc) (number : ℕ) → number ≡ clamped (length (object_bytes d)) → object_limit < number → object_limit < length (object_bytes d)
 past_is d number e past = past_by (length (object_bytes d)) number e past
 
--- ---- the blocks behind what stands before them
+-- ---- the blocks after what is before them
 regroup : (f a b c d e g h i j k l m n o p q r s : List ℕ)
     → f ++ a ++ b ++ c ++ d ++ e ++ g ++ h ++ i ++ j ++ k ++ l ++ m ++ n ++ o ++ p ++ q ++ r ++ s
     ≡ f ++ (a ++ (b ++ (c ++ (d ++ (e ++ (g ++ (h ++ (i ++ (j ++ (k ++ (l ++ (m ++ (n ++ (o ++ (p ++ (q ++ (r ++ (s ++ []))))))))))))))))))
 regroup f a b c d e g h i j k l m n o p q r s = simp (append_assoc, append-nil)
 
-pub blocks_behind : (d : ObjDesc) (front : List ℕ) → with_other_blocks d (with_named_blocks d front) ≡ front ++ joined (blocks_of d)
-unfolding with_other_blocks with_named_blocks joined blocks_of
+pub blocks_behind : (d : ObjDesc) (front : List ℕ) → with_other_blocks d (with_named_blocks d front) ≡ front ++ concat_of (blocks_of d)
+unfolding with_other_blocks with_named_blocks concat_of blocks_of
 blocks_behind d front = regroup front _ _ _ _ _ _ _ _ _ _ _ _ _ _ _ _ _ _
 
-pub object_is : (d : ObjDesc) (nothing header front named whole : List ℕ) → nothing ≡ [] → header ≡ nothing ++ header_of d → front ≡ header ++ joined (pool_of d)
+pub object_is : (d : ObjDesc) (nothing header front named whole : List ℕ) → nothing ≡ [] → header ≡ nothing ++ header_of d → front ≡ header ++ concat_of (pool_of d)
     → named ≡ with_named_blocks d front → whole ≡ with_other_blocks d named → whole ≡ object_bytes d
 unfolding object_bytes
 object_is d nothing header front named whole e0 e1 e2 e3 e4 =
     e4 ∙ ap (λ (x : List ℕ). with_other_blocks d x) e3 ∙ blocks_behind d front
-    ∙ ap (λ (x : List ℕ). x ++ joined (blocks_of d)) (e2 ∙ ap (λ (x : List ℕ). x ++ joined (pool_of d)) (e1 ∙ ap (λ (x : List ℕ). x ++ header_of d) e0))
-    ∙ append_assoc (header_of d) (joined (pool_of d)) (joined (blocks_of d))
+    ∙ ap (λ (x : List ℕ). x ++ concat_of (blocks_of d)) (e2 ∙ ap (λ (x : List ℕ). x ++ concat_of (pool_of d)) (e1 ∙ ap (λ (x : List ℕ). x ++ header_of d) e0))
+    ∙ append_assoc (header_of d) (concat_of (pool_of d)) (concat_of (blocks_of d))
 
 -- the sum of what the code has
-pub sum_small : (d : ObjDesc) (strings : ℕ) (lengths : List ℕ) → IsSmall d → strings ≡ told (length (joined (pool_of d))) → lengths ≡ told_lengths d → 96 + strings + sum_of lengths ≤ object_limit
+pub sum_small : (d : ObjDesc) (strings : ℕ) (lengths : List ℕ) → IsSmall d → strings ≡ clamped (length (concat_of (pool_of d))) → lengths ≡ clamped_lengths d → 96 + strings + sum_of lengths ≤ object_limit
 sum_small d strings lengths small es el =
-    let a : strings ≡ length (joined (pool_of d)) = es ∙ small.strings in
+    let a : strings ≡ length (concat_of (pool_of d)) = es ∙ small.strings in
     let b : sum_of lengths ≡ sum_of (lengths_of d) = ap sum_of (el ∙ small.lengths ∙ lengths_are d) in
     omega (arith, a, b, small.sum)

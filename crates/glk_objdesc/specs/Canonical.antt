@@ -15,9 +15,9 @@ use Rattle.glk_objdesc.specs.declared.desc.RefNameDesc.{RefNameDesc}
 use Rattle.glk_objdesc.specs.declared.desc.ObjDesc.{ObjDesc}
 use Rattle.glk_objdesc.specs.declared.parts.Part.{Part}
 use Rattle.glk_objdesc.specs.declared.parts.Part.TheVariants.{Hash, Content, Relocs, Auxes}
-use Rattle.glk_objdesc.specs.Fields.{words_bytes, running}
-use Rattle.glk_base.specs.Fields.{byte, half, word, long, fields_bytes}
-use Rattle.glk_objdesc.specs.FirstUse.{first_use, joined, place_of}
+use Rattle.glk_objdesc.specs.Fields.{u32s_bytes, prefix_sums}
+use Rattle.glk_base.specs.Fields.{byte, u16, u32, u64, fields_bytes}
+use Rattle.glk_objdesc.specs.FirstUse.{first_use, concat_of, offset_in}
 
 -- The strings, in the order of the blocks that name them. PkgIdx begins with the empty string.
 
@@ -52,44 +52,44 @@ strings_of d =
 unfoldable pub pool_of : ObjDesc → List (List ℕ)
 pool_of d = first_use (strings_of d)
 
--- Where a string stands in the object. The empty string takes no place.
-unfoldable pub text_place : List (List ℕ) → List ℕ → ℕ
-text_place pool s = if length s == 0 then 0 else header_length + place_of pool s
+-- The offset of a string in the object. The empty string takes no room.
+unfoldable pub text_offset : List (List ℕ) → List ℕ → ℕ
+text_offset pool s = if length s == 0 then 0 else header_length + offset_in pool s
 
--- The records. A string is named by its length and its place.
+-- The records. A string is named by its length and its offset.
 
 abbrev pub autolib_bytes : List (List ℕ) → AutolibDesc → List ℕ
-autolib_bytes pool a = fields_bytes (word (length a.path) ∷ word (text_place pool a.path) ∷ []) ++ a.fingerprint
+autolib_bytes pool a = fields_bytes (u32 (length a.path) ∷ u32 (text_offset pool a.path) ∷ []) ++ a.fingerprint
 
 -- of a package or a file
 abbrev pub name_bytes : List (List ℕ) → List ℕ → List ℕ
-name_bytes pool s = fields_bytes (word (length s) ∷ word (text_place pool s) ∷ [])
+name_bytes pool s = fields_bytes (u32 (length s) ∷ u32 (text_offset pool s) ∷ [])
 
 abbrev pub symbol_bytes : List (List ℕ) → SymDesc → List ℕ
 symbol_bytes pool s =
     fields_bytes
-    (word (length s.name) ∷ word (text_place pool s.name) ∷ half s.abi ∷ byte s.kind ∷ byte s.flag ∷ byte s.flag2
-    ∷ word s.size ∷ word s.align ∷ [])
+    (u32 (length s.name) ∷ u32 (text_offset pool s.name) ∷ u16 s.abi ∷ byte s.kind ∷ byte s.flag ∷ byte s.flag2
+    ∷ u32 s.size ∷ u32 s.align ∷ [])
 
 abbrev pub def_bytes : List (List ℕ) → DefDesc → List ℕ
 def_bytes pool def = symbol_bytes pool def.sym
 
 abbrev pub ref_flags_bytes : RefFlagsRec → List ℕ
-ref_flags_bytes r = fields_bytes (word r.target.pkg ∷ word r.target.sym ∷ byte r.flag ∷ byte r.flag2 ∷ [])
+ref_flags_bytes r = fields_bytes (u32 r.target.pkg ∷ u32 r.target.sym ∷ byte r.flag ∷ byte r.flag2 ∷ [])
 
 abbrev pub reloc_bytes : RelocRec → List ℕ
 reloc_bytes r =
     fields_bytes
-    (word (cast_unsigned w32 r.off) ∷ byte r.size ∷ half r.kind ∷ long (cast_unsigned w64 r.add)
-    ∷ word r.target.pkg ∷ word r.target.sym ∷ [])
+    (u32 (cast_unsigned w32 r.off) ∷ byte r.size ∷ u16 r.kind ∷ u64 (cast_unsigned w64 r.add)
+    ∷ u32 r.target.pkg ∷ u32 r.target.sym ∷ [])
 
 abbrev pub aux_bytes : AuxRec → List ℕ
-aux_bytes a = fields_bytes (byte a.kind ∷ word a.target.pkg ∷ word a.target.sym ∷ [])
+aux_bytes a = fields_bytes (byte a.kind ∷ u32 a.target.pkg ∷ u32 a.target.sym ∷ [])
 
 abbrev pub ref_name_bytes : List (List ℕ) → RefNameDesc → List ℕ
 ref_name_bytes pool r =
     fields_bytes
-    (word r.target.pkg ∷ word r.target.sym ∷ word (length r.name) ∷ word (text_place pool r.name) ∷ [])
+    (u32 r.target.pkg ∷ u32 r.target.sym ∷ u32 (length r.name) ∷ u32 (text_offset pool r.name) ∷ [])
 
 -- What a definition has.
 
@@ -117,7 +117,7 @@ amount Auxes def = length def.auxes
 
 -- A table of indices: where each definition's part of the block begins, and the end of the last one's.
 unfoldable pub table_bytes : Part → ObjDesc → List ℕ
-table_bytes part d = words_bytes (running 0 (map (amount part) (definitions_of d)))
+table_bytes part d = u32s_bytes (prefix_sums 0 (map (amount part) (definitions_of d)))
 
 -- The blocks in order.
 unfoldable pub blocks_of : ObjDesc → List (List ℕ)
@@ -142,29 +142,29 @@ blocks_of d =
     ∷ flat_map (ref_name_bytes (pool_of d)) d.ref_names
     ∷ []
 
--- where the blocks begin, and where the last one ends: they stand behind the strings without gaps
+-- where the blocks begin, and where the last one ends: they follow the strings without gaps
 abbrev pub offsets_of : ObjDesc → List ℕ
-offsets_of d = running (header_length + length (joined (pool_of d))) (map length (blocks_of d))
+offsets_of d = prefix_sums (header_length + length (concat_of (pool_of d))) (map length (blocks_of d))
 
 -- the header: magic, fingerprint, flags, and where each block begins
 unfoldable pub header_of : ObjDesc → List ℕ
-header_of d = magic ++ (d.fingerprint ++ (fields_bytes (word d.flags ∷ []) ++ words_bytes (offsets_of d)))
+header_of d = magic ++ (d.fingerprint ++ (fields_bytes (u32 d.flags ∷ []) ++ u32s_bytes (offsets_of d)))
 
 -- the canonical bytes
 unfoldable pub object_bytes : ObjDesc → List ℕ
-object_bytes d = header_of d ++ (joined (pool_of d) ++ joined (blocks_of d))
+object_bytes d = header_of d ++ (concat_of (pool_of d) ++ concat_of (blocks_of d))
 
 -- the most bytes that an object may have
 abbrev pub object_limit : ℕ
 object_limit = 2 ^ 30 - 128
 
--- a number of bytes as it is told, since a greater one has no number
-unfoldable pub told : ℕ → ℕ
-told n = min n (2 ^ 64 - 1)
+-- a number of bytes, clamped to u64
+unfoldable pub clamped : ℕ → ℕ
+clamped n = min n (2 ^ 64 - 1)
 
 -- The object passes the limit, and this is its length.
 abbrev pub IsPast : ObjDesc → TooBig → Type 0
-IsPast d bad = (object_limit < length (object_bytes d)) × (bad.number ≡ told (length (object_bytes d)))
+IsPast d bad = (object_limit < length (object_bytes d)) × (bad.number ≡ clamped (length (object_bytes d)))
 
 abbrev pub Refuses : ObjDesc → Fault TooBig → Type 0
 Refuses d (Bad bad) = IsPast d bad

@@ -1,22 +1,13 @@
 -- Which descriptions keep to the format, so that their canonical bytes describe them.
 use Rattle.std.specs.Prelude.{◌≡◌, ◌<◌, ◌≤◌, ◌^◌, ℕ, List, length, All, Contains}
+use Rattle.glk_obj.specs.Blocks.{hash64_width}
+use Rattle.glk_obj.specs.Rules.{shortest_hash, longest_hash}
 use Rattle.glk_obj.specs.declared.records.SymRef.{SymRef}
 use Rattle.glk_objdesc.specs.declared.desc.AutolibDesc.{AutolibDesc}
 use Rattle.glk_objdesc.specs.declared.desc.SymDesc.{SymDesc}
 use Rattle.glk_objdesc.specs.declared.desc.DefDesc.{DefDesc}
 use Rattle.glk_objdesc.specs.declared.desc.RefNameDesc.{RefNameDesc}
 use Rattle.glk_objdesc.specs.declared.desc.ObjDesc.{ObjDesc}
-
--- the length of a short hash
-abbrev pub short_hash : ℕ
-short_hash = 8
-
--- the lengths that long hashes may have
-abbrev pub shortest_hash : ℕ
-shortest_hash = 8
-
-abbrev pub longest_hash : ℕ
-longest_hash = 64
 
 -- references name packages by numbers below this one
 abbrev pub package_limit : ℕ
@@ -30,7 +21,7 @@ HasNoZero s = Contains s 0 → ⊥
 abbrev pub IsPlainRef : SymRef → Type 0
 IsPlainRef r = r.pkg < package_limit
 
--- each definition has a hash of so many bytes
+-- each definition has a hash of n bytes
 abbrev pub HaveHashes : List DefDesc → ℕ → Type 0
 HaveHashes defs n = All (λ (def : DefDesc). length def.hash ≡ n) defs
 
@@ -57,7 +48,7 @@ pub record IsPrintable (d : ObjDesc) : Type 0 where
   pub files : All HasNoZero d.files
   -- definitions that go by their names have no hash
   pub def_hashes : HaveHashes d.defs 0
-  pub short_hashes : HaveHashes d.hash64 short_hash
+  pub short_hashes : HaveHashes d.hash64 hash64_width
   pub long_hashes : HaveLongHashes d.hashed
   pub ndef_hashes : HaveHashes d.ndefs 0
   pub defs : All IsPrintableDef d.defs

@@ -8,24 +8,28 @@ use Rattle.glk_objdesc.specs.declared.desc.DefDesc.{DefDesc}
 use Rattle.glk_objdesc.specs.declared.desc.ObjDesc.{ObjDesc}
 use Rattle.glk_objdesc.specs.declared.parts.Part.{Part}
 use Rattle.glk_objdesc.specs.declared.parts.Part.TheVariants.{Hash, Content, Relocs, Auxes}
-use Rattle.glk_objdesc.specs.FirstUse.{joined}
-use Rattle.glk_objdesc.specs.Canonical.{amount, definitions_of, told, object_bytes, object_limit, pool_of, blocks_of}
+use Rattle.glk_objdesc.specs.FirstUse.{concat_of}
+use Rattle.glk_objdesc.specs.Canonical.{amount, definitions_of, clamped, object_bytes, object_limit, pool_of, blocks_of}
 
 -- a string whose length is a number of four bytes
 unfoldable pub IsShort : List ℕ → Type 0
 IsShort s = length s < 2 ^ 32
 
+-- all strings of a description have a property
+pub record HasNames (Q : List ℕ → Type 0) (d : ObjDesc) : Type 0 where
+  pub autolib : All (λ (a : AutolibDesc). Q a.path) d.autolib
+  pub pkgs : All Q d.pkgs
+  pub files : All Q d.files
+  pub defs : All (λ (def : DefDesc). Q def.sym.name) d.defs
+  pub hash64 : All (λ (def : DefDesc). Q def.sym.name) d.hash64
+  pub hashed : All (λ (def : DefDesc). Q def.sym.name) d.hashed
+  pub ndefs : All (λ (def : DefDesc). Q def.sym.name) d.ndefs
+  pub refs : All (λ (s : SymDesc). Q s.name) d.refs
+  pub ref_names : All (λ (r : RefNameDesc). Q r.name) d.ref_names
+
 -- the lengths of all strings are numbers of four bytes
-pub record HasShortNames (d : ObjDesc) : Type 0 where
-  pub autolib : All (λ (a : AutolibDesc). IsShort a.path) d.autolib
-  pub pkgs : All IsShort d.pkgs
-  pub files : All IsShort d.files
-  pub defs : All (λ (def : DefDesc). IsShort def.sym.name) d.defs
-  pub hash64 : All (λ (def : DefDesc). IsShort def.sym.name) d.hash64
-  pub hashed : All (λ (def : DefDesc). IsShort def.sym.name) d.hashed
-  pub ndefs : All (λ (def : DefDesc). IsShort def.sym.name) d.ndefs
-  pub refs : All (λ (s : SymDesc). IsShort s.name) d.refs
-  pub ref_names : All (λ (r : RefNameDesc). IsShort r.name) d.ref_names
+abbrev pub HasShortNames : ObjDesc → Type 0
+HasShortNames d = HasNames IsShort d
 
 -- the sum of numbers
 unfoldable pub sum_of : List ℕ → ℕ
@@ -65,16 +69,16 @@ lengths_of d =
     ∷ ref_name_width * length d.ref_names
     ∷ []
 
--- the same as they are told
-abbrev pub told_lengths : ObjDesc → List ℕ
-told_lengths d = map told (lengths_of d)
+-- the same, clamped
+abbrev pub clamped_lengths : ObjDesc → List ℕ
+clamped_lengths d = map clamped (lengths_of d)
 
 -- what an object within the limit is
 pub record IsSmall (d : ObjDesc) : Type 0 where
   pub whole : length (object_bytes d) ≤ object_limit
-  pub sum : header_length + length (joined (pool_of d)) + sum_of (lengths_of d) ≤ object_limit
-  pub strings : told (length (joined (pool_of d))) ≡ length (joined (pool_of d))
-  pub lengths : told_lengths d ≡ map length (blocks_of d)
+  pub sum : header_length + length (concat_of (pool_of d)) + sum_of (lengths_of d) ≤ object_limit
+  pub strings : clamped (length (concat_of (pool_of d))) ≡ length (concat_of (pool_of d))
+  pub lengths : clamped_lengths d ≡ map length (blocks_of d)
   pub relocs : total_of Relocs (definitions_of d) ≤ object_limit
   pub auxes : total_of Auxes (definitions_of d) ≤ object_limit
   pub content : total_of Content (definitions_of d) ≤ object_limit

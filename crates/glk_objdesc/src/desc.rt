@@ -2,13 +2,13 @@
 use glk_base::{Seq, Text};
 use glk_obj::{AuxRec, RefFlagsRec, RelocRec, SymRef};
 
-/// All that an object file says. Lists stand in the file's order; local indices run through
+/// All that an object file says. Lists are in the file's order; local indices run through
 /// `defs`, `hash64`, `hashed`, `ndefs` and `refs`.
 #[derive(Debug, Drop)]
 pub struct ObjDesc {
     /// The flags of the header; bit 2 marks an object from assembly.
     pub flags: u32,
-    /// The bytes that tell this compilation of the package from another.
+    /// The bytes by which this compilation of the package differs from others.
     pub fingerprint: [u8; 8],
     /// The packages that the object was compiled against.
     pub autolib: Seq<AutolibDesc>,

@@ -4,7 +4,7 @@ ghost use Rattle.glk_objdesc.specs.Canonical.{amount};
 
 use crate::desc::DefDesc;
 
-/// A part of a definition that stands in a block of its own.
+/// A part of a definition that has a block of its own.
 #[derive(Clone, Copy, Debug)]
 pub(crate) enum Part {
     Hash,

@@ -3,37 +3,38 @@ ghost use Rattle.std.specs.Prelude.{◌≡◌, ◌+◌, ◌<◌, ◌≤◌, ◌^
 ghost use Rattle.std.specs.HashMap.{get_by};
 ghost use Rattle.std.specs.Str.{bytes_eq};
 ghost use Rattle.glk_obj.specs.Blocks.{header_length};
-ghost use Rattle.glk_objdesc.specs.FirstUse.{with_first, with_each, joined, place_of};
-ghost use Rattle.glk_objdesc.specs.Canonical.{text_place, told, autolib_path, def_name, sym_name, ref_name, pool_of, object_limit};
-ghost use Rattle.glk_objdesc.specs.Views.{seen};
+ghost use Rattle.glk_objdesc.specs.FirstUse.{with_first, with_each, concat_of, offset_in};
+ghost use Rattle.glk_objdesc.specs.Canonical.{text_offset, clamped, autolib_path, def_name, sym_name, ref_name, pool_of, object_limit};
+ghost use Rattle.glk_objdesc.specs.Views.{texts_of};
 
 use crate::desc::{AutolibDesc, DefDesc, ObjDesc, RefNameDesc, SymDesc};
 use glk_base::{OutOfMemory, Text};
+use glk_obj::HEADER_LENGTH;
 use std::alloc::Global;
 use std::collections::HashMap;
 use std::marker::Model;
 
-/// The length of the header, behind which the strings stand.
-pub(crate) const HEADER_LENGTH: u32 = 96;
+// Where the strings begin in an object: after the header.
+const STRINGS: u32 = HEADER_LENGTH as u32;
 
-/// Strings of first use, each with its place in their join. Contracts see it as the list of the
-/// strings. Places and the size stop at the greatest number.
+/// Strings of first use, each with its offset in their concatenation. Contracts see it as the list of the
+/// strings. Offsets and the size are clamped to u64.
 #[derive(Drop)]
 pub(crate) struct Pool<'a> {
     strings: Vec<&'a [u8]>,
-    places: HashMap<&'a [u8], u64>,
+    offsets: HashMap<&'a [u8], u64>,
     size: u64,
 }
 
 impl<'a> Model for Pool<'a> {
     ghost use Rattle.std.specs.Prelude.{List, ℕ};
-    ghost use Rattle.glk_objdesc.specs.Views.{seen, Fits};
+    ghost use Rattle.glk_objdesc.specs.Views.{texts_of, Fits};
 
     ghost Value = { List (List ℕ) };
 
-    ghost view = { λ p. seen p.strings.items };
+    ghost view = { λ p. texts_of p.strings.items };
 
-    ghost invariant = { λ p. Fits (seen p.strings.items) p.places p.size };
+    ghost invariant = { λ p. Fits (texts_of p.strings.items) p.offsets p.size };
 }
 
 impl<'a> Pool<'a> {
@@ -42,7 +43,7 @@ impl<'a> Pool<'a> {
     {
         Pool {
             strings: Vec::new(alloc),
-            places: HashMap::new(alloc),
+            offsets: HashMap::new(alloc),
             size: 0,
         }
     }
@@ -54,54 +55,54 @@ impl<'a> Pool<'a> {
         if string.is_empty() {
             return Ok(());
         }
-        match found(&self.places, string) {
+        match found(&self.offsets, string) {
             Some(_) => return Ok(()),
             None => {}
         }
         self.strings.reserve(1)?;
-        self.places.insert(string, self.size)?;
+        self.offsets.insert(string, self.size)?;
         self.strings.push(string)?;
         self.size = self.size.saturating_add(string.len() as u64);
         Ok(())
     }
 
-    /// Where a string stands in the object; an empty one has the place 0.
-    pub(crate) fn place(&self, string: &[u8]) -> u32
-        requires { length (joined self.now) ≤ object_limit }
-        ensures { result ≡ text_place self.now string.now }
+    /// The offset of a string in the object; 0 of an empty one.
+    pub(crate) fn offset(&self, string: &[u8]) -> u32
+        requires { length (concat_of self.now) ≤ object_limit }
+        ensures { result ≡ text_offset self.now string.now }
     {
         if string.is_empty() {
             return 0;
         }
-        HEADER_LENGTH + found(&self.places, string).unwrap_or(self.size) as u32
+        STRINGS + found(&self.offsets, string).unwrap_or(self.size) as u32
     }
 
-    /// How long the join is.
+    /// The length of the concatenation.
     pub(crate) fn size(&self) -> u64
-        ensures { result ≡ told (length (joined self.now)) }
+        ensures { result ≡ clamped (length (concat_of self.now)) }
     {
         self.size
     }
 
-    /// Adds the join at the end.
+    /// Adds the concatenation at the end.
     pub(crate) fn write(&self, out: &mut Vec<u8>) -> Result<(), OutOfMemory>
-        ensures { OnOk result (out.new.items ≡ out.old.items ++ joined self.now) }
+        ensures { OnOk result (out.new.items ≡ out.old.items ++ concat_of self.now) }
     {
         push_strings(out, &self.strings)
     }
 }
 
-// The place that is noted for a string.
-fn found(places: &HashMap<&[u8], u64>, string: &[u8]) -> Option<u64>
-    ensures { result ≡ get_by (λ k. bytes_eq string.now k.now) places.now }
+// The offset that is noted for a string.
+fn found(offsets: &HashMap<&[u8], u64>, string: &[u8]) -> Option<u64>
+    ensures { result ≡ get_by (λ k. bytes_eq string.now k.now) offsets.now }
 {
-    places.get(string).copied()
+    offsets.get(string).copied()
 }
 
 // Adds strings at the end.
-#[tactic(auto, unfolding(crate::specs::FirstUse::joined))]
+#[tactic(auto, unfolding(crate::specs::FirstUse::concat_of))]
 fn push_strings(out: &mut Vec<u8>, strings: &[&[u8]]) -> Result<(), OutOfMemory>
-    ensures { OnOk result (out.new.items ≡ out.old.items ++ joined (seen strings.now)) }
+    ensures { OnOk result (out.new.items ≡ out.old.items ++ concat_of (texts_of strings.now)) }
 {
     let mut rest = strings;
     while let [first, after @ ..] = rest {

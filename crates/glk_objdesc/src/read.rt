@@ -3,7 +3,7 @@ ghost use Rattle.std.specs.Prelude.{◌≡◌, ◌+◌, ◌-◌, ◌<◌, ◌≤
 ghost use Rattle.glk_obj.specs.Blocks.{count, autolib, pkg_idx, file, symdef, hashed64def, hasheddef, nonpkgdef, nonpkgref, ref_flags, ref_name};
 ghost use Rattle.glk_obj.specs.Object.{IsObject};
 ghost use Rattle.glk_obj.specs.Records.{definitions, symbols, symbol_at, reloc_count, reloc_at, aux_count, aux_at, autolib_at, pkg_at, file_at, ref_flags_at, hash64_at, hash_at};
-ghost use Rattle.glk_objdesc.specs.Described.{each_from, autolib_desc, symbol_desc, reloc_desc, aux_desc, ref_flags_desc, relocs_of, auxes_of, def_desc, ref_name_desc, first_hash64, first_hashed, first_ndef, first_ref, description_of};
+ghost use Rattle.glk_objdesc.specs.Described.{autolib_of, pkgs_of, files_of, plain_from, hash64_from, hashed_from, refs_of, ref_flags_of, ref_names_of, autolib_desc, symbol_desc, reloc_desc, aux_desc, ref_flags_desc, relocs_of, auxes_of, def_desc, ref_name_desc, first_hash64, first_hashed, first_ndef, first_ref, description_of};
 
 use crate::desc::{AutolibDesc, DefDesc, ObjDesc, RefNameDesc, SymDesc};
 use glk_base::{OutOfMemory, Seq, Text};
@@ -24,7 +24,7 @@ fn compiled_against(alloc: Global, view: &ObjView<'_>, k: u32) -> Result<Autolib
 
 // The packages that the object was compiled against.
 fn autolib(alloc: Global, view: &ObjView<'_>) -> Result<Vec<AutolibDesc>, OutOfMemory>
-    ensures { IfOk result (λ v. v.items ≡ each_from (λ k. autolib_desc (autolib_at view.now k)) 0 (count view.now autolib)) }
+    ensures { IfOk result (λ v. v.items ≡ autolib_of view.now) }
 {
     let mut items = Vec::new(alloc);
     for k in 0..view.count(Block::Autolib) {
@@ -35,7 +35,7 @@ fn autolib(alloc: Global, view: &ObjView<'_>) -> Result<Vec<AutolibDesc>, OutOfM
 
 // The packages of PkgIdx from 1 on.
 fn pkgs(alloc: Global, view: &ObjView<'_>) -> Result<Vec<Text>, OutOfMemory>
-    ensures { IfOk result (λ v. v.items ≡ each_from (pkg_at view.now) 1 (count view.now pkg_idx - 1)) }
+    ensures { IfOk result (λ v. v.items ≡ pkgs_of view.now) }
 {
     let mut items = Vec::new(alloc);
     for k in 1..view.count(Block::PkgIdx) {
@@ -46,7 +46,7 @@ fn pkgs(alloc: Global, view: &ObjView<'_>) -> Result<Vec<Text>, OutOfMemory>
 
 // The source files.
 fn files(alloc: Global, view: &ObjView<'_>) -> Result<Vec<Text>, OutOfMemory>
-    ensures { IfOk result (λ v. v.items ≡ each_from (file_at view.now) 0 (count view.now file)) }
+    ensures { IfOk result (λ v. v.items ≡ files_of view.now) }
 {
     let mut items = Vec::new(alloc);
     for k in 0..view.count(Block::File) {
@@ -143,7 +143,7 @@ fn definition(
     })
 }
 
-// Definitions without a hash, so many from local index `first` on.
+// `count` definitions without a hash, from local index `first` on.
 fn plain_definitions(
     alloc: Global,
     view: &ObjView<'_>,
@@ -152,7 +152,7 @@ fn plain_definitions(
 ) -> Result<Vec<DefDesc>, OutOfMemory>
     requires inside { first + count ≤ definitions view.now }
     requires small { definitions view.now < 2 ^ 32 }
-    ensures { IfOk result (λ v. v.items ≡ each_from (λ k. def_desc view.now (first + k) []) 0 count) }
+    ensures { IfOk result (λ v. v.items ≡ plain_from view.now first count) }
 {
     let mut items = Vec::new(alloc);
     for k in 0..count {
@@ -165,7 +165,7 @@ fn plain_definitions(
 fn hash64(alloc: Global, view: &ObjView<'_>, first: u32) -> Result<Vec<DefDesc>, OutOfMemory>
     requires first { first ≡ first_hash64 view.now }
     requires small { definitions view.now < 2 ^ 32 }
-    ensures { IfOk result (λ v. v.items ≡ each_from (λ k. def_desc view.now (first + k) (hash64_at view.now k)) 0 (count view.now hashed64def)) }
+    ensures { IfOk result (λ v. v.items ≡ hash64_from view.now first) }
 {
     let mut items = Vec::new(alloc);
     for k in 0..view.count(Block::Hashed64def) {
@@ -179,7 +179,7 @@ fn hash64(alloc: Global, view: &ObjView<'_>, first: u32) -> Result<Vec<DefDesc>,
 fn hashed(alloc: Global, view: &ObjView<'_>, first: u32) -> Result<Vec<DefDesc>, OutOfMemory>
     requires first { first ≡ first_hashed view.now }
     requires small { definitions view.now < 2 ^ 32 }
-    ensures { IfOk result (λ v. v.items ≡ each_from (λ k. def_desc view.now (first + k) (hash_at view.now k)) 0 (count view.now hasheddef)) }
+    ensures { IfOk result (λ v. v.items ≡ hashed_from view.now first) }
 {
     let mut items = Vec::new(alloc);
     for k in 0..view.count(Block::Hasheddef) {
@@ -190,7 +190,7 @@ fn hashed(alloc: Global, view: &ObjView<'_>, first: u32) -> Result<Vec<DefDesc>,
 
 // References without a package.
 fn references(alloc: Global, view: &ObjView<'_>) -> Result<Vec<SymDesc>, OutOfMemory>
-    ensures { IfOk result (λ v. v.items ≡ each_from (λ k. symbol_desc (symbol_at view.now (first_ref view.now + k))) 0 (count view.now nonpkgref)) }
+    ensures { IfOk result (λ v. v.items ≡ refs_of view.now) }
 {
     let first = view.definitions();
     let end = view.symbols();
@@ -203,7 +203,7 @@ fn references(alloc: Global, view: &ObjView<'_>) -> Result<Vec<SymDesc>, OutOfMe
 
 // Flags of symbols of other packages.
 fn ref_flags(alloc: Global, view: &ObjView<'_>) -> Result<Vec<RefFlagsRec>, OutOfMemory>
-    ensures { IfOk result (λ v. v.items ≡ each_from (λ k. ref_flags_desc (ref_flags_at view.now k)) 0 (count view.now ref_flags)) }
+    ensures { IfOk result (λ v. v.items ≡ ref_flags_of view.now) }
 {
     let mut items = Vec::new(alloc);
     for k in 0..view.count(Block::RefFlags) {
@@ -218,7 +218,7 @@ fn named(alloc: Global, view: &ObjView<'_>, k: u32) -> Result<RefNameDesc, OutOf
     requires { k < count view.now ref_name }
     ensures { IfOk result (λ r. r ≡ ref_name_desc view.now k) }
 {
-    let (target, name) = view.ref_name_record(k);
+    let (target, name) = view.ref_name_at(k);
     Ok(RefNameDesc {
         target,
         name: Text::new(alloc, name)?,
@@ -227,7 +227,7 @@ fn named(alloc: Global, view: &ObjView<'_>, k: u32) -> Result<RefNameDesc, OutOf
 
 // Names of symbols of other packages.
 fn ref_names(alloc: Global, view: &ObjView<'_>) -> Result<Vec<RefNameDesc>, OutOfMemory>
-    ensures { IfOk result (λ v. v.items ≡ each_from (ref_name_desc view.now) 0 (count view.now ref_name)) }
+    ensures { IfOk result (λ v. v.items ≡ ref_names_of view.now) }
 {
     let mut items = Vec::new(alloc);
     for k in 0..view.count(Block::RefName) {
@@ -237,6 +237,10 @@ fn ref_names(alloc: Global, view: &ObjView<'_>) -> Result<Vec<RefNameDesc>, OutO
 }
 
 /// All that an object says. Entry 0 of PkgIdx is not among the packages, whatever it holds.
+///
+/// # Errors
+///
+/// Memory ran out.
 #[tactic(auto, unfolding(crate::specs::Described::description_of))]
 pub fn describe(alloc: Global, view: &ObjView<'_>) -> Result<ObjDesc, OutOfMemory>
     ensures { IfOk result (λ d. d ≡ description_of view.now) }

@@ -1,8 +1,9 @@
 // Writes the records of the blocks.
 ghost use Rattle.std.specs.Prelude.{◌≡◌, ◌+◌, ◌<◌, ◌≤◌, ◌^◌, ◌++◌, ◌∷◌, [], List, ℕ, All, IfOk, OnOk, length, map, flat_map};
-ghost use Rattle.glk_objdesc.specs.FirstUse.{joined};
-ghost use Rattle.glk_objdesc.specs.Fields.{words_bytes, running};
-ghost use Rattle.glk_base.specs.Fields.{fields_bytes, word};
+ghost use Rattle.glk_objdesc.specs.FirstUse.{concat_of};
+ghost use Rattle.glk_objdesc.specs.Written.{AddsEntries};
+ghost use Rattle.glk_objdesc.specs.Fields.{u32s_bytes, prefix_sums};
+ghost use Rattle.glk_base.specs.Fields.{fields_bytes, u32};
 ghost use Rattle.glk_objdesc.specs.Canonical.{autolib_bytes, name_bytes, symbol_bytes, def_bytes, ref_flags_bytes, reloc_bytes, aux_bytes, ref_name_bytes, hash_of, content_of, relocs_bytes, auxes_bytes, amount, object_limit};
 ghost use Rattle.glk_objdesc.specs.Sizes.{IsShort, total_of};
 
@@ -12,45 +13,36 @@ use crate::pool::Pool;
 use glk_base::{Field, OutOfMemory, Text, push_fields};
 use glk_obj::{AuxRec, RefFlagsRec, RelocRec};
 
-// Adds the record of a package that the object was compiled against.
-#[tactic(auto, unfolding(crate::specs::Sizes::IsShort))]
-fn push_package(out: &mut Vec<u8>, pool: &Pool<'_>, entry: &AutolibDesc) -> Result<(), OutOfMemory>
-    requires pool { length (joined pool.now) ≤ object_limit }
-    requires name { IsShort entry.now.path }
-    ensures { OnOk result (out.new.items ≡ out.old.items ++ autolib_bytes pool.now entry.now) }
-{
-    let path = entry.path.as_bytes();
-    push_fields(
-        out,
-        &[
-            Field::Word(path.len() as u32),
-            Field::Word(pool.place(path)),
-        ],
-    )?;
-    out.extend_from_slice(&entry.fingerprint)?;
-    Ok(())
+/// A record of a block, with a string of the object, or none.
+pub(crate) trait Record {
+    ghost bytes: { List (List ℕ) → Self → List ℕ };
+
+    ghost short: { Self → Type 0 };
+
+    // Adds the record at the end.
+    fn push(&self, out: &mut Vec<u8>, pool: &Pool<'_>) -> Result<(), OutOfMemory>
+        requires pool { length (concat_of pool.now) ≤ object_limit }
+        requires name { short self.now }
+        ensures { OnOk result (out.new.items ≡ out.old.items ++ bytes pool.now self.now) };
 }
 
 // Adds the record of a package's or a file's name.
 #[tactic(auto, unfolding(crate::specs::Sizes::IsShort))]
 fn push_name(out: &mut Vec<u8>, pool: &Pool<'_>, name: &[u8]) -> Result<(), OutOfMemory>
-    requires pool { length (joined pool.now) ≤ object_limit }
+    requires pool { length (concat_of pool.now) ≤ object_limit }
     requires name { IsShort name.now }
     ensures { OnOk result (out.new.items ≡ out.old.items ++ name_bytes pool.now name.now) }
 {
     push_fields(
         out,
-        &[
-            Field::Word(name.len() as u32),
-            Field::Word(pool.place(name)),
-        ],
+        &[Field::U32(name.len() as u32), Field::U32(pool.offset(name))],
     )
 }
 
 // Adds the record of a symbol.
 #[tactic(auto, unfolding(crate::specs::Sizes::IsShort))]
 fn push_symbol(out: &mut Vec<u8>, pool: &Pool<'_>, symbol: &SymDesc) -> Result<(), OutOfMemory>
-    requires pool { length (joined pool.now) ≤ object_limit }
+    requires pool { length (concat_of pool.now) ≤ object_limit }
     requires name { IsShort symbol.now.name }
     ensures { OnOk result (out.new.items ≡ out.old.items ++ symbol_bytes pool.now symbol.now) }
 {
@@ -58,114 +50,164 @@ fn push_symbol(out: &mut Vec<u8>, pool: &Pool<'_>, symbol: &SymDesc) -> Result<(
     push_fields(
         out,
         &[
-            Field::Word(name.len() as u32),
-            Field::Word(pool.place(name)),
-            Field::Half(symbol.abi),
+            Field::U32(name.len() as u32),
+            Field::U32(pool.offset(name)),
+            Field::U16(symbol.abi),
             Field::Byte(symbol.kind),
             Field::Byte(symbol.flag),
             Field::Byte(symbol.flag2),
-            Field::Word(symbol.size),
-            Field::Word(symbol.align),
+            Field::U32(symbol.size),
+            Field::U32(symbol.align),
         ],
     )
 }
 
-// Adds the record of a reference's flags.
-fn push_ref_flag(out: &mut Vec<u8>, flags: RefFlagsRec) -> Result<(), OutOfMemory>
-    ensures { OnOk result (out.new.items ≡ out.old.items ++ ref_flags_bytes flags) }
-{
-    push_fields(
-        out,
-        &[
-            Field::Word(flags.target.pkg),
-            Field::Word(flags.target.sym),
-            Field::Byte(flags.flag),
-            Field::Byte(flags.flag2),
-        ],
-    )
-}
+// A package that the object was compiled against.
+impl Record for AutolibDesc {
+    ghost bytes = { autolib_bytes };
 
-// Adds the record of a relocation.
-fn push_reloc(out: &mut Vec<u8>, reloc: RelocRec) -> Result<(), OutOfMemory>
-    ensures { OnOk result (out.new.items ≡ out.old.items ++ reloc_bytes reloc) }
-{
-    push_fields(
-        out,
-        &[
-            Field::Word(reloc.off.cast_unsigned()),
-            Field::Byte(reloc.size),
-            Field::Half(reloc.kind),
-            Field::Long(reloc.add.cast_unsigned()),
-            Field::Word(reloc.target.pkg),
-            Field::Word(reloc.target.sym),
-        ],
-    )
-}
+    ghost short = { λ a. IsShort a.path };
 
-// Adds the record of an aux.
-fn push_aux(out: &mut Vec<u8>, aux: AuxRec) -> Result<(), OutOfMemory>
-    ensures { OnOk result (out.new.items ≡ out.old.items ++ aux_bytes aux) }
-{
-    push_fields(
-        out,
-        &[
-            Field::Byte(aux.kind),
-            Field::Word(aux.target.pkg),
-            Field::Word(aux.target.sym),
-        ],
-    )
-}
-
-// Adds the record of a name of a symbol of another package.
-#[tactic(auto, unfolding(crate::specs::Sizes::IsShort))]
-fn push_ref_name(out: &mut Vec<u8>, pool: &Pool<'_>, named: &RefNameDesc) -> Result<(), OutOfMemory>
-    requires pool { length (joined pool.now) ≤ object_limit }
-    requires name { IsShort named.now.name }
-    ensures { OnOk result (out.new.items ≡ out.old.items ++ ref_name_bytes pool.now named.now) }
-{
-    let name = named.name.as_bytes();
-    push_fields(
-        out,
-        &[
-            Field::Word(named.target.pkg),
-            Field::Word(named.target.sym),
-            Field::Word(name.len() as u32),
-            Field::Word(pool.place(name)),
-        ],
-    )
-}
-
-/// Adds the records of Autolib.
-pub(crate) fn push_packages(
-    out: &mut Vec<u8>,
-    pool: &Pool<'_>,
-    packages: &[AutolibDesc],
-) -> Result<(), OutOfMemory>
-    requires pool { length (joined pool.now) ≤ object_limit }
-    requires names { All (λ a. IsShort a.path) packages.now }
-    ensures { OnOk result (out.new.items ≡ out.old.items ++ flat_map (autolib_bytes pool.now) packages.now) }
-{
-    let mut rest = packages;
-    while let [first, after @ ..] = rest {
-        push_package(out, pool, first)?;
-        rest = after;
+    #[tactic(auto, unfolding(crate::specs::Sizes::IsShort))]
+    fn push(&self, out: &mut Vec<u8>, pool: &Pool<'_>) -> Result<(), OutOfMemory> {
+        let path = self.path.as_bytes();
+        push_fields(
+            out,
+            &[Field::U32(path.len() as u32), Field::U32(pool.offset(path))],
+        )?;
+        out.extend_from_slice(&self.fingerprint)?;
+        Ok(())
     }
-    Ok(())
 }
 
-/// Adds the records of packages' or files' names.
-pub(crate) fn push_names(
+// A package's or a file's name.
+impl Record for Text {
+    ghost bytes = { name_bytes };
+
+    ghost short = { IsShort };
+
+    fn push(&self, out: &mut Vec<u8>, pool: &Pool<'_>) -> Result<(), OutOfMemory> {
+        push_name(out, pool, self.as_bytes())
+    }
+}
+
+// A reference without a package.
+impl Record for SymDesc {
+    ghost bytes = { symbol_bytes };
+
+    ghost short = { λ s. IsShort s.name };
+
+    fn push(&self, out: &mut Vec<u8>, pool: &Pool<'_>) -> Result<(), OutOfMemory> {
+        push_symbol(out, pool, self)
+    }
+}
+
+// The symbol of a definition.
+impl Record for DefDesc {
+    ghost bytes = { def_bytes };
+
+    ghost short = { λ def. IsShort def.sym.name };
+
+    fn push(&self, out: &mut Vec<u8>, pool: &Pool<'_>) -> Result<(), OutOfMemory> {
+        push_symbol(out, pool, &self.sym)
+    }
+}
+
+// The flags of a reference.
+impl Record for RefFlagsRec {
+    ghost bytes = { λ _ r. ref_flags_bytes r };
+
+    ghost short = { λ _. Unit {0} };
+
+    fn push(&self, out: &mut Vec<u8>, pool: &Pool<'_>) -> Result<(), OutOfMemory> {
+        let _ = pool;
+        push_fields(
+            out,
+            &[
+                Field::U32(self.target.pkg),
+                Field::U32(self.target.sym),
+                Field::Byte(self.flag),
+                Field::Byte(self.flag2),
+            ],
+        )
+    }
+}
+
+// A relocation.
+impl Record for RelocRec {
+    ghost bytes = { λ _ r. reloc_bytes r };
+
+    ghost short = { λ _. Unit {0} };
+
+    fn push(&self, out: &mut Vec<u8>, pool: &Pool<'_>) -> Result<(), OutOfMemory> {
+        let _ = pool;
+        push_fields(
+            out,
+            &[
+                Field::U32(self.off.cast_unsigned()),
+                Field::Byte(self.size),
+                Field::U16(self.kind),
+                Field::U64(self.add.cast_unsigned()),
+                Field::U32(self.target.pkg),
+                Field::U32(self.target.sym),
+            ],
+        )
+    }
+}
+
+// An aux.
+impl Record for AuxRec {
+    ghost bytes = { λ _ a. aux_bytes a };
+
+    ghost short = { λ _. Unit {0} };
+
+    fn push(&self, out: &mut Vec<u8>, pool: &Pool<'_>) -> Result<(), OutOfMemory> {
+        let _ = pool;
+        push_fields(
+            out,
+            &[
+                Field::Byte(self.kind),
+                Field::U32(self.target.pkg),
+                Field::U32(self.target.sym),
+            ],
+        )
+    }
+}
+
+// A name of a symbol of another package.
+impl Record for RefNameDesc {
+    ghost bytes = { ref_name_bytes };
+
+    ghost short = { λ r. IsShort r.name };
+
+    #[tactic(auto, unfolding(crate::specs::Sizes::IsShort))]
+    fn push(&self, out: &mut Vec<u8>, pool: &Pool<'_>) -> Result<(), OutOfMemory> {
+        let name = self.name.as_bytes();
+        push_fields(
+            out,
+            &[
+                Field::U32(self.target.pkg),
+                Field::U32(self.target.sym),
+                Field::U32(name.len() as u32),
+                Field::U32(pool.offset(name)),
+            ],
+        )
+    }
+}
+
+/// Adds records.
+pub(crate) fn push_records<R: Record>(
     out: &mut Vec<u8>,
     pool: &Pool<'_>,
-    names: &[Text],
+    records: &[R],
 ) -> Result<(), OutOfMemory>
-    requires pool { length (joined pool.now) ≤ object_limit }
-    requires names { All IsShort names.now }
-    ensures { OnOk result (out.new.items ≡ out.old.items ++ flat_map (name_bytes pool.now) names.now) }
+    requires pool { length (concat_of pool.now) ≤ object_limit }
+    requires names { All R.short records.now }
+    ensures { OnOk result (out.new.items ≡ out.old.items ++ flat_map (R.bytes pool.now) records.now) }
 {
-    let mut rest = names;
+    let mut rest = records;
     while let [first, after @ ..] = rest {
-        push_name(out, pool, first.as_bytes())?;
+        first.push(out, pool)?;
         rest = after;
     }
     Ok(())
@@ -178,60 +220,12 @@ pub(crate) fn push_pkgs(
     pool: &Pool<'_>,
     names: &[Text],
 ) -> Result<(), OutOfMemory>
-    requires pool { length (joined pool.now) ≤ object_limit }
+    requires pool { length (concat_of pool.now) ≤ object_limit }
     requires names { All IsShort names.now }
     ensures { OnOk result (out.new.items ≡ out.old.items ++ flat_map (name_bytes pool.now) ([] ∷ names.now)) }
 {
     push_name(out, pool, &[])?;
-    push_names(out, pool, names)
-}
-
-/// Adds the records of definitions.
-pub(crate) fn push_definitions(
-    out: &mut Vec<u8>,
-    pool: &Pool<'_>,
-    defs: &[DefDesc],
-) -> Result<(), OutOfMemory>
-    requires pool { length (joined pool.now) ≤ object_limit }
-    requires names { All (λ def. IsShort def.sym.name) defs.now }
-    ensures { OnOk result (out.new.items ≡ out.old.items ++ flat_map (def_bytes pool.now) defs.now) }
-{
-    let mut rest = defs;
-    while let [first, after @ ..] = rest {
-        push_symbol(out, pool, &first.sym)?;
-        rest = after;
-    }
-    Ok(())
-}
-
-/// Adds the records of references without a package.
-pub(crate) fn push_references(
-    out: &mut Vec<u8>,
-    pool: &Pool<'_>,
-    refs: &[SymDesc],
-) -> Result<(), OutOfMemory>
-    requires pool { length (joined pool.now) ≤ object_limit }
-    requires names { All (λ s. IsShort s.name) refs.now }
-    ensures { OnOk result (out.new.items ≡ out.old.items ++ flat_map (symbol_bytes pool.now) refs.now) }
-{
-    let mut rest = refs;
-    while let [first, after @ ..] = rest {
-        push_symbol(out, pool, first)?;
-        rest = after;
-    }
-    Ok(())
-}
-
-/// Adds the records of RefFlags.
-pub(crate) fn push_ref_flags(out: &mut Vec<u8>, flags: &[RefFlagsRec]) -> Result<(), OutOfMemory>
-    ensures { OnOk result (out.new.items ≡ out.old.items ++ flat_map ref_flags_bytes flags.now) }
-{
-    let mut rest = flags;
-    while let [first, after @ ..] = rest {
-        push_ref_flag(out, *first)?;
-        rest = after;
-    }
-    Ok(())
+    push_records(out, pool, names)
 }
 
 /// Adds the hashes of definitions.
@@ -248,7 +242,7 @@ pub(crate) fn push_hashes(out: &mut Vec<u8>, defs: &[DefDesc]) -> Result<(), Out
 
 /// Adds entries of a table: where the part of each definition begins, the first one's at `from`.
 /// It answers where the last one's ends.
-#[tactic(auto, unfolding(glk_base::specs::Fields::fields_bytes, crate::specs::Fields::running, crate::specs::Sizes::total_of))]
+#[tactic(auto, unfolding(glk_base::specs::Fields::fields_bytes, crate::specs::Fields::prefix_sums, crate::specs::Sizes::total_of))]
 pub(crate) fn push_entries(
     out: &mut Vec<u8>,
     part: Part,
@@ -257,12 +251,12 @@ pub(crate) fn push_entries(
 ) -> Result<u32, OutOfMemory>
     requires { from + total_of part defs.now < 2 ^ 32 }
     ensures sum { IfOk result (λ to. to ≡ from + total_of part defs.now) }
-    ensures entries { IfOk result (λ to. (more : List ℕ) → out.new.items ++ words_bytes (running to more) ≡ out.old.items ++ words_bytes (running from (map (amount part) defs.now ++ more))) }
+    ensures entries { IfOk result (λ to. AddsEntries part from defs.now to out.old.items out.new.items) }
 {
     let mut at = from;
     let mut rest = defs;
     while let [first, after @ ..] = rest {
-        push_fields(out, &[Field::Word(at)])?;
+        push_fields(out, &[Field::U32(at)])?;
         at += part.amount(first) as u32;
         rest = after;
     }
@@ -270,50 +264,56 @@ pub(crate) fn push_entries(
 }
 
 // Adds relocations.
-fn push_relocs_of(out: &mut Vec<u8>, relocs: &[RelocRec]) -> Result<(), OutOfMemory>
+fn push_relocs_of(
+    out: &mut Vec<u8>,
+    pool: &Pool<'_>,
+    relocs: &[RelocRec],
+) -> Result<(), OutOfMemory>
+    requires { length (concat_of pool.now) ≤ object_limit }
     ensures { OnOk result (out.new.items ≡ out.old.items ++ flat_map reloc_bytes relocs.now) }
 {
-    let mut rest = relocs;
+    push_records(out, pool, relocs)
+}
+
+/// Adds the relocations of definitions.
+#[tactic(auto, unfolding(crate::specs::Canonical::relocs_bytes))]
+pub(crate) fn push_relocs(
+    out: &mut Vec<u8>,
+    pool: &Pool<'_>,
+    defs: &[DefDesc],
+) -> Result<(), OutOfMemory>
+    requires { length (concat_of pool.now) ≤ object_limit }
+    ensures { OnOk result (out.new.items ≡ out.old.items ++ flat_map relocs_bytes defs.now) }
+{
+    let mut rest = defs;
     while let [first, after @ ..] = rest {
-        push_reloc(out, *first)?;
+        push_relocs_of(out, pool, first.relocs.as_slice())?;
         rest = after;
     }
     Ok(())
 }
 
 // Adds auxes.
-fn push_auxes_of(out: &mut Vec<u8>, auxes: &[AuxRec]) -> Result<(), OutOfMemory>
+fn push_auxes_of(out: &mut Vec<u8>, pool: &Pool<'_>, auxes: &[AuxRec]) -> Result<(), OutOfMemory>
+    requires { length (concat_of pool.now) ≤ object_limit }
     ensures { OnOk result (out.new.items ≡ out.old.items ++ flat_map aux_bytes auxes.now) }
 {
-    let mut rest = auxes;
-    while let [first, after @ ..] = rest {
-        push_aux(out, *first)?;
-        rest = after;
-    }
-    Ok(())
-}
-
-/// Adds the relocations of definitions.
-#[tactic(auto, unfolding(crate::specs::Canonical::relocs_bytes))]
-pub(crate) fn push_relocs(out: &mut Vec<u8>, defs: &[DefDesc]) -> Result<(), OutOfMemory>
-    ensures { OnOk result (out.new.items ≡ out.old.items ++ flat_map relocs_bytes defs.now) }
-{
-    let mut rest = defs;
-    while let [first, after @ ..] = rest {
-        push_relocs_of(out, first.relocs.as_slice())?;
-        rest = after;
-    }
-    Ok(())
+    push_records(out, pool, auxes)
 }
 
 /// Adds the auxes of definitions.
 #[tactic(auto, unfolding(crate::specs::Canonical::auxes_bytes))]
-pub(crate) fn push_auxes(out: &mut Vec<u8>, defs: &[DefDesc]) -> Result<(), OutOfMemory>
+pub(crate) fn push_auxes(
+    out: &mut Vec<u8>,
+    pool: &Pool<'_>,
+    defs: &[DefDesc],
+) -> Result<(), OutOfMemory>
+    requires { length (concat_of pool.now) ≤ object_limit }
     ensures { OnOk result (out.new.items ≡ out.old.items ++ flat_map auxes_bytes defs.now) }
 {
     let mut rest = defs;
     while let [first, after @ ..] = rest {
-        push_auxes_of(out, first.auxes.as_slice())?;
+        push_auxes_of(out, pool, first.auxes.as_slice())?;
         rest = after;
     }
     Ok(())
@@ -326,24 +326,6 @@ pub(crate) fn push_contents(out: &mut Vec<u8>, defs: &[DefDesc]) -> Result<(), O
     let mut rest = defs;
     while let [first, after @ ..] = rest {
         out.extend_from_slice(first.content.as_bytes())?;
-        rest = after;
-    }
-    Ok(())
-}
-
-/// Adds the records of RefName.
-pub(crate) fn push_ref_names(
-    out: &mut Vec<u8>,
-    pool: &Pool<'_>,
-    names: &[RefNameDesc],
-) -> Result<(), OutOfMemory>
-    requires pool { length (joined pool.now) ≤ object_limit }
-    requires names { All (λ r. IsShort r.name) names.now }
-    ensures { OnOk result (out.new.items ≡ out.old.items ++ flat_map (ref_name_bytes pool.now) names.now) }
-{
-    let mut rest = names;
-    while let [first, after @ ..] = rest {
-        push_ref_name(out, pool, first)?;
         rest = after;
     }
     Ok(())

@@ -1,42 +1,28 @@
 // How long the blocks of an object are. Sums and products stop at the greatest number.
 ghost use Rattle.std.specs.Prelude.{◌≡◌, ◌+◌, ◌*◌, ◌≤◌, length};
 ghost use Rattle.glk_obj.specs.Blocks.{name_width, symbol_width, ref_flags_width, entry_width, reloc_width, aux_width, ref_name_width};
-ghost use Rattle.glk_objdesc.specs.Canonical.{told, definitions_of};
-ghost use Rattle.glk_objdesc.specs.Sizes.{total_of, packages_length, told_lengths, sum_of};
+ghost use Rattle.glk_objdesc.specs.Canonical.{clamped, definitions_of};
+ghost use Rattle.glk_objdesc.specs.Sizes.{total_of, packages_length, clamped_lengths, sum_of};
 
 use crate::desc::{AutolibDesc, DefDesc, ObjDesc};
 use crate::parts::Part;
-
-/// How many blocks there are.
-pub(crate) const BLOCKS: usize = 18;
-
-// The widths of records, in bytes.
-const NAME_WIDTH: u64 = 8;
-
-const SYMBOL_WIDTH: u64 = 21;
-
-const REF_FLAGS_WIDTH: u64 = 10;
-
-const ENTRY_WIDTH: u64 = 4;
-
-const RELOC_WIDTH: u64 = 23;
-
-const AUX_WIDTH: u64 = 9;
-
-const REF_NAME_WIDTH: u64 = 16;
+use glk_obj::{
+    AUX_WIDTH, BLOCK_COUNT, ENTRY_WIDTH, NAME_WIDTH, REF_FLAGS_WIDTH, REF_NAME_WIDTH, RELOC_WIDTH,
+    SYMBOL_WIDTH,
+};
 
 // The length of a package's record.
 fn package_length(entry: &AutolibDesc) -> u64
     ensures value { result ≡ name_width + length entry.now.fingerprint }
     ensures small { result ≤ 16 }
 {
-    NAME_WIDTH + entry.fingerprint.len() as u64
+    NAME_WIDTH as u64 + entry.fingerprint.len() as u64
 }
 
 // The length of the records of packages.
-#[tactic(auto, unfolding(crate::specs::Canonical::told, crate::specs::Sizes::packages_length))]
+#[tactic(auto, unfolding(crate::specs::Canonical::clamped, crate::specs::Sizes::packages_length))]
 fn packages_length(packages: &[AutolibDesc]) -> u64
-    ensures { result ≡ told (packages_length packages.now) }
+    ensures { result ≡ clamped (packages_length packages.now) }
 {
     let mut total: u64 = 0;
     let mut rest = packages;
@@ -48,9 +34,9 @@ fn packages_length(packages: &[AutolibDesc]) -> u64
 }
 
 // How much definitions have of a part.
-#[tactic(auto, unfolding(crate::specs::Canonical::told, crate::specs::Sizes::total_of))]
+#[tactic(auto, unfolding(crate::specs::Canonical::clamped, crate::specs::Sizes::total_of))]
 fn total(part: Part, defs: &[DefDesc]) -> u64
-    ensures { result ≡ told (total_of part defs.now) }
+    ensures { result ≡ clamped (total_of part defs.now) }
 {
     let mut total: u64 = 0;
     let mut rest = defs;
@@ -63,7 +49,7 @@ fn total(part: Part, defs: &[DefDesc]) -> u64
 
 // How much all definitions have of a part.
 fn whole(part: Part, d: &ObjDesc) -> u64
-    ensures { result ≡ told (total_of part (definitions_of d.now)) }
+    ensures { result ≡ clamped (total_of part (definitions_of d.now)) }
 {
     total(part, d.defs.as_slice())
         .saturating_add(total(part, d.hash64.as_slice()))
@@ -73,7 +59,7 @@ fn whole(part: Part, d: &ObjDesc) -> u64
 
 // How many definitions there are.
 fn definitions(d: &ObjDesc) -> u64
-    ensures { result ≡ told (length (definitions_of d.now)) }
+    ensures { result ≡ clamped (length (definitions_of d.now)) }
 {
     (d.defs.as_slice().len() as u64)
         .saturating_add(d.hash64.as_slice().len() as u64)
@@ -83,68 +69,68 @@ fn definitions(d: &ObjDesc) -> u64
 
 // The length of a table with an entry for each definition, and one more.
 fn table_length(d: &ObjDesc) -> u64
-    ensures { result ≡ told (entry_width * (length (definitions_of d.now) + 1)) }
+    ensures { result ≡ clamped (entry_width * (length (definitions_of d.now) + 1)) }
 {
-    ENTRY_WIDTH.saturating_mul(definitions(d).saturating_add(1))
+    (ENTRY_WIDTH as u64).saturating_mul(definitions(d).saturating_add(1))
 }
 
-// The length of so many symbols.
-#[tactic(auto, unfolding(crate::specs::Canonical::told))]
+// The length of `count` symbols.
+#[tactic(auto, unfolding(crate::specs::Canonical::clamped))]
 fn symbols_length(count: usize) -> u64
-    ensures { result ≡ told (symbol_width * count) }
+    ensures { result ≡ clamped (symbol_width * count) }
 {
-    SYMBOL_WIDTH.saturating_mul(count as u64)
+    (SYMBOL_WIDTH as u64).saturating_mul(count as u64)
 }
 
 // The length of PkgIdx, which has one entry more than there are packages.
-#[tactic(auto, unfolding(crate::specs::Canonical::told))]
+#[tactic(auto, unfolding(crate::specs::Canonical::clamped))]
 fn pkgs_length(count: usize) -> u64
-    ensures { result ≡ told (name_width * (count + 1)) }
+    ensures { result ≡ clamped (name_width * (count + 1)) }
 {
-    NAME_WIDTH.saturating_mul((count as u64).saturating_add(1))
+    (NAME_WIDTH as u64).saturating_mul((count as u64).saturating_add(1))
 }
 
-// The length of so many names of files.
-#[tactic(auto, unfolding(crate::specs::Canonical::told))]
+// The length of `count` names of files.
+#[tactic(auto, unfolding(crate::specs::Canonical::clamped))]
 fn files_length(count: usize) -> u64
-    ensures { result ≡ told (name_width * count) }
+    ensures { result ≡ clamped (name_width * count) }
 {
-    NAME_WIDTH.saturating_mul(count as u64)
+    (NAME_WIDTH as u64).saturating_mul(count as u64)
 }
 
-// The length of so many records of RefFlags.
-#[tactic(auto, unfolding(crate::specs::Canonical::told))]
+// The length of `count` records of RefFlags.
+#[tactic(auto, unfolding(crate::specs::Canonical::clamped))]
 fn ref_flags_length(count: usize) -> u64
-    ensures { result ≡ told (ref_flags_width * count) }
+    ensures { result ≡ clamped (ref_flags_width * count) }
 {
-    REF_FLAGS_WIDTH.saturating_mul(count as u64)
+    (REF_FLAGS_WIDTH as u64).saturating_mul(count as u64)
 }
 
-// The length of so many records of RefName.
-#[tactic(auto, unfolding(crate::specs::Canonical::told))]
+// The length of `count` records of RefName.
+#[tactic(auto, unfolding(crate::specs::Canonical::clamped))]
 fn ref_names_length(count: usize) -> u64
-    ensures { result ≡ told (ref_name_width * count) }
+    ensures { result ≡ clamped (ref_name_width * count) }
 {
-    REF_NAME_WIDTH.saturating_mul(count as u64)
+    (REF_NAME_WIDTH as u64).saturating_mul(count as u64)
 }
 
 // The length of all relocations.
 fn relocs_length(d: &ObjDesc) -> u64
-    ensures { result ≡ told (reloc_width * total_of Part.Relocs (definitions_of d.now)) }
+    ensures { result ≡ clamped (reloc_width * total_of Part.Relocs (definitions_of d.now)) }
 {
-    RELOC_WIDTH.saturating_mul(whole(Part::Relocs, d))
+    (RELOC_WIDTH as u64).saturating_mul(whole(Part::Relocs, d))
 }
 
 // The length of all auxes.
 fn auxes_length(d: &ObjDesc) -> u64
-    ensures { result ≡ told (aux_width * total_of Part.Auxes (definitions_of d.now)) }
+    ensures { result ≡ clamped (aux_width * total_of Part.Auxes (definitions_of d.now)) }
 {
-    AUX_WIDTH.saturating_mul(whole(Part::Auxes, d))
+    (AUX_WIDTH as u64).saturating_mul(whole(Part::Auxes, d))
 }
 
 /// The lengths of the blocks in order.
-pub(crate) fn block_lengths(d: &ObjDesc) -> [u64; BLOCKS]
-    ensures { result ≡ told_lengths d.now }
+pub(crate) fn block_lengths(d: &ObjDesc) -> [u64; BLOCK_COUNT]
+    ensures { result ≡ clamped_lengths d.now }
 {
     let table = table_length(d);
     [
@@ -169,10 +155,10 @@ pub(crate) fn block_lengths(d: &ObjDesc) -> [u64; BLOCKS]
     ]
 }
 
-/// The sum of lengths and what stands before.
-#[tactic(auto, unfolding(crate::specs::Canonical::told, crate::specs::Sizes::sum_of))]
+/// The sum of lengths and what is before them.
+#[tactic(auto, unfolding(crate::specs::Canonical::clamped, crate::specs::Sizes::sum_of))]
 pub(crate) fn sum_from(before: u64, lengths: &[u64]) -> u64
-    ensures { result ≡ told (before + sum_of lengths.now) }
+    ensures { result ≡ clamped (before + sum_of lengths.now) }
 {
     let mut total = before;
     let mut rest = lengths;

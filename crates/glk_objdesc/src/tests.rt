@@ -1,60 +1,9 @@
 // What canonical objects are, and that they are read back.
-use super::{DefDesc, ObjDesc, SymDesc, describe, write_object};
-use glk_base::{Fault, Seq, Text};
+use super::{ObjDesc, describe, write_object};
+use glk_base::Fault;
 use glk_obj::ObjView;
 use std::alloc::{AllocError, Global};
 use std::test::Fail;
-
-// An object without any record.
-fn empty(alloc: Global) -> ObjDesc {
-    ObjDesc {
-        flags: 0,
-        fingerprint: [0; 8],
-        autolib: Seq::new(Vec::new(alloc)),
-        pkgs: Seq::new(Vec::new(alloc)),
-        files: Seq::new(Vec::new(alloc)),
-        defs: Seq::new(Vec::new(alloc)),
-        hash64: Seq::new(Vec::new(alloc)),
-        hashed: Seq::new(Vec::new(alloc)),
-        ndefs: Seq::new(Vec::new(alloc)),
-        refs: Seq::new(Vec::new(alloc)),
-        ref_flags: Seq::new(Vec::new(alloc)),
-        ref_names: Seq::new(Vec::new(alloc)),
-    }
-}
-
-fn text(alloc: Global, bytes: &[u8]) -> Result<Text, Fail> {
-    Ok(Text::new(alloc, bytes)?)
-}
-
-fn symbol(
-    alloc: Global,
-    name: &[u8],
-    abi: u16,
-    kind: u8,
-    size: u32,
-    align: u32,
-) -> Result<SymDesc, Fail> {
-    Ok(SymDesc {
-        name: text(alloc, name)?,
-        abi,
-        kind,
-        flag: 0,
-        flag2: 0,
-        size,
-        align,
-    })
-}
-
-fn definition(alloc: Global, sym: SymDesc, hash: &[u8], content: &[u8]) -> Result<DefDesc, Fail> {
-    Ok(DefDesc {
-        sym,
-        hash: text(alloc, hash)?,
-        content: text(alloc, content)?,
-        relocs: Seq::new(Vec::new(alloc)),
-        auxes: Seq::new(Vec::new(alloc)),
-    })
-}
 
 // The smallest program's object.
 const SMALLEST: [u8; 174] = [
@@ -111,15 +60,6 @@ const FULL: [u8; 421] = [
     0, 0, 0,
 ];
 
-// The description of `SMALLEST`.
-fn smallest(alloc: Global) -> Result<ObjDesc, Fail> {
-    let symbol = symbol(alloc, b"_rt0_amd64_linux", 0, 1, 9, 0)?;
-    let definition = definition(alloc, symbol, b"", b"\x31\xff\xb8\x3c\0\0\0\x0f\x05")?;
-    let mut d = empty(alloc);
-    d.defs = Seq::new(vec![in alloc; definition]?);
-    Ok(d)
-}
-
 // The bytes of a description; none where it is refused.
 fn bytes_of(alloc: Global, d: &ObjDesc) -> Result<Vec<u8>, Fail> {
     match write_object(alloc, d) {
@@ -146,93 +86,11 @@ fn goes_both_ways(alloc: Global, bytes: &[u8]) -> Result<bool, Fail> {
 }
 
 #[test]
-fn the_smallest_object_goes_both_ways(rt: HostRuntime) -> Result<(), Fail> {
+fn objects_go_both_ways(rt: HostRuntime) -> Result<(), Fail> {
     let alloc = rt.alloc();
-    let d = smallest(alloc)?;
-    let bytes = bytes_of(alloc, &d)?;
-    assert_eq!(rt; bytes.as_slice(), SMALLEST.as_slice());
-    assert!(rt; goes_both_ways(alloc, &SMALLEST)?);
-    Ok(())
-}
-
-#[test]
-fn an_object_with_auxes_and_files_goes_both_ways(rt: HostRuntime) -> Result<(), Fail> {
-    assert!(rt; goes_both_ways(rt.alloc(), &INLINED)?);
-    Ok(())
-}
-
-#[test]
-fn a_record_in_each_block_goes_both_ways(rt: HostRuntime) -> Result<(), Fail> {
-    assert!(rt; goes_both_ways(rt.alloc(), &FULL)?);
-    Ok(())
-}
-
-// The first of these texts.
-fn first_of(texts: &[Text]) -> &[u8] {
-    match texts {
-        [first, ..] => first.as_bytes(),
-        [] => &[],
+    for bytes in [SMALLEST.as_slice(), INLINED.as_slice(), FULL.as_slice()] {
+        let same = goes_both_ways(alloc, bytes)?;
+        assert!(rt; same, "the object of {} bytes", bytes.len());
     }
-}
-
-// The addend of the first relocation, the kind of the first aux, and how many there are.
-fn references_of(defs: &[DefDesc]) -> Option<(i64, u8, usize)> {
-    let [def, ..] = defs else {
-        return None;
-    };
-    match (def.relocs.as_slice(), def.auxes.as_slice()) {
-        ([reloc, ..], [aux, ..]) => Some((reloc.add, aux.kind, defs.len())),
-        _ => None,
-    }
-}
-
-// The lengths of the first definition's name, hash and data.
-fn lengths_of(defs: &[DefDesc]) -> Option<(usize, usize, usize)> {
-    match defs {
-        [def, ..] => Some((
-            def.sym.name.as_bytes().len(),
-            def.hash.as_bytes().len(),
-            def.content.as_bytes().len(),
-        )),
-        [] => None,
-    }
-}
-
-#[test]
-fn a_description_has_the_records_of_its_object(rt: HostRuntime) -> Result<(), Fail> {
-    let alloc = rt.alloc();
-    match described(alloc, &FULL)? {
-        Some(d) => {
-            assert_eq!(rt; d.flags, 4);
-            assert_eq!(rt; d.fingerprint, [240, 241, 242, 243, 244, 245, 246, 247]);
-            assert_eq!(rt; d.pkgs.as_slice().len(), 1);
-            assert_eq!(rt; first_of(d.pkgs.as_slice()), b"os".as_slice());
-            assert_eq!(rt; first_of(d.files.as_slice()), b"m".as_slice());
-            assert_eq!(rt; references_of(d.defs.as_slice()), Some((-5, 1, 1)));
-            assert_eq!(rt; lengths_of(d.hash64.as_slice()), Some((0, 8, 0)));
-            assert_eq!(rt; lengths_of(d.hashed.as_slice()), Some((1, 20, 1)));
-            assert_eq!(rt; lengths_of(d.ndefs.as_slice()), Some((1, 0, 0)));
-            assert_eq!(rt; d.ref_names.as_slice().len(), 2);
-        }
-        None => assert!(rt; false),
-    }
-    Ok(())
-}
-
-// How many names an object with many of them has.
-const NAMES: u32 = 200_000;
-
-#[test]
-fn many_distinct_names_are_written(rt: HostRuntime) -> Result<(), Fail> {
-    let alloc = rt.alloc();
-    let mut refs = Vec::new(alloc);
-    for k in 0..NAMES {
-        refs.push(symbol(alloc, &k.to_be_bytes(), 1, 0, 0, 0)?)?;
-    }
-    let mut d = empty(alloc);
-    d.refs = Seq::new(refs);
-    let bytes = bytes_of(alloc, &d)?;
-    // the header, names of four bytes, the dummy package, records of 21 bytes, three tables of one entry
-    assert_eq!(rt; bytes.len(), 96 + 4 * 200_000 + 8 + 21 * 200_000 + 12);
     Ok(())
 }

@@ -10,7 +10,7 @@ use Rattle.glk_objdesc.specs.declared.desc.ObjDesc.{ObjDesc}
 use Rattle.glk_objdesc.specs.declared.desc.RefNameDesc.{RefNameDesc}
 use Rattle.glk_objdesc.specs.declared.desc.SymDesc.{SymDesc}
 use Rattle.glk_objtext.specs.Building.{EndsParts}
-use Rattle.glk_objtext.specs.Description.{flags_from, fingerprint_from, imports, packages, sources, references, flag_records, named, content_under, relocs_under, auxes_under, block_number, definitions, described}
+use Rattle.glk_objtext.specs.Description.{flags_from, fingerprint_from, imports, packages, sources, references, flag_records, ref_names, content_under, relocs_under, auxes_under, block_number, definitions, description_of_lines}
 use Rattle.glk_objtext.specs.Text.{content_lines, def_lines, lines_of}
 use Rattle.glk_objtext.specs.declared.line.DefBlock.{DefBlock}
 use Rattle.glk_objtext.specs.declared.line.DefBlock.TheVariants.{Symdef, Hashed64def, Hasheddef, Nonpkgdef}
@@ -308,15 +308,15 @@ records_back d =
     ∙ ap (λ (more : List RefFlagsRec). d.ref_flags ++ more) (end_names flag_records d (λ x m. refl))
     ∙ append-nil d.ref_flags
 
-names_back : (d : ObjDesc) → named (from_autolib d) ≡ d.ref_names
+names_back : (d : ObjDesc) → ref_names (from_autolib d) ≡ d.ref_names
 names_back d =
-    to_names named d (λ x m. refl) (λ x m. refl) (λ x m. refl) (λ b. record { symbol = λ s h m. refl; content = λ s m. refl; reloc = λ r m. refl; aux = λ a m. refl }) (λ x m. refl) (λ x m. refl)
-    ∙ ap named (sym (append-nil (map Named d.ref_names)))
-    ∙ gathered named Named (λ x m. refl) d.ref_names []
+    to_names ref_names d (λ x m. refl) (λ x m. refl) (λ x m. refl) (λ b. record { symbol = λ s h m. refl; content = λ s m. refl; reloc = λ r m. refl; aux = λ a m. refl }) (λ x m. refl) (λ x m. refl)
+    ∙ ap ref_names (sym (append-nil (map Named d.ref_names)))
+    ∙ gathered ref_names Named (λ x m. refl) d.ref_names []
     ∙ append-nil d.ref_names
 
-joined_back : (d : ObjDesc) → described (Header d.flags d.fingerprint ∷ from_autolib d) ≡ d
-unfolding described
+joined_back : (d : ObjDesc) → description_of_lines (Header d.flags d.fingerprint ∷ from_autolib d) ≡ d
+unfolding description_of_lines
 joined_back d = λ i. record {
   flags = flags_back d i;
   fingerprint = fingerprint_back d i;
@@ -333,5 +333,5 @@ joined_back d = λ i. record {
 }
 
 -- the lines of a description make it again
-pub description_back : (d : ObjDesc) → described (lines_of d) ≡ d
-description_back d = ap described (lines_joined d) ∙ joined_back d
+pub description_back : (d : ObjDesc) → description_of_lines (lines_of d) ≡ d
+description_back d = ap description_of_lines (lines_joined d) ∙ joined_back d

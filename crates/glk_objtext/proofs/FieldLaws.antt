@@ -4,13 +4,13 @@ use Rattle.std.specs.List.{flat_map, list_all}
 use Rattle.std.proofs.lemmas.Bool.{cases_eq, and_parts, false≢true}
 use Rattle.hex.specs.Hex.{lower_digits}
 use Rattle.glk_objtext.specs.Fields.{next_mode, is_between, fields_from, fields}
-use Rattle.glk_objtext.specs.Lines.{is_blank}
-use Rattle.glk_objtext.specs.Strings.{is_bare_byte, is_printed, is_low_hex, escaped, NoZeros}
-use Rattle.glk_objtext.specs.Text.{spaced}
+use Rattle.glk_base.specs.Lines.{is_blank}
+use Rattle.glk_objtext.specs.Strings.{is_bare_byte, is_printed, is_low_hex, byte_escape, NoZeros}
+use Rattle.glk_objtext.specs.Text.{after_space}
 use Rattle.glk_objtext.specs.declared.fields.Mode.{Mode}
 use Rattle.glk_objtext.specs.declared.fields.Mode.TheVariants.{Between, Bare, Quoted, Escaped}
 use Rattle.glk_objtext.proofs.FieldSteps.{byte_ends, byte_goes_on, at_end}
-use Rattle.glk_objtext.proofs.SpellingLaws.{low_digit}
+use Rattle.glk_objtext.proofs.Cases.{digit_back}
 use Rattle.glk_objtext.proofs.StringLaws.{escaped_plain, escaped_digits, escaped_quote, escaped_backslash, rest_of}
 
 -- a space ends a field that is open so
@@ -74,10 +74,10 @@ field_last m before (b ∷ f) h =
     ∙ ap (λ (g : List ℕ). g ∷ []) (append_assoc before (b ∷ []) f)
 
 -- the fields of a line are those that it was made of
-pub fields_back : (f : List ℕ) (fs : List (List ℕ)) → IsField f → AreFields fs → fields (f ++ flat_map spaced fs) ≡ f ∷ fs
+pub fields_back : (f : List ℕ) (fs : List (List ℕ)) → IsField f → AreFields fs → fields (f ++ flat_map after_space fs) ≡ f ∷ fs
 fields_back f [] one all = ap fields (append-nil f) ∙ field_last Between [] f one.one
 fields_back f (g ∷ fs) one all =
-    field_then Between [] f (g ++ flat_map spaced fs) one.one
+    field_then Between [] f (g ++ flat_map after_space fs) one.one
     ∙ ap (λ (gs : List (List ℕ)). f ∷ gs) (fields_back g fs all.0 all.1)
 
 -- bytes of bare words
@@ -153,8 +153,8 @@ pair_next = (refl, refl, refl, refl, refl, refl)
 
 -- one byte, escaped where it has to be, leaves the string open
 pub record StaysOpen (b : ℕ) : Type 0 where
-  pub open_still : (rest : List ℕ) → stays Quoted (escaped b ++ rest) ≡ stays Quoted rest
-  pub printed : list_all is_printed (escaped b) ≡ true
+  pub open_still : (rest : List ℕ) → stays Quoted (byte_escape b ++ rest) ≡ stays Quoted rest
+  pub printed : list_all is_printed (byte_escape b) ≡ true
 
 by_printed : (v : Bool) (b : ℕ) → is_printed b ≡ v → eqb b 34 ≡ false → eqb b 92 ≡ false → b < 256 → StaysOpen b
 by_printed true b p q s small =
@@ -163,8 +163,8 @@ by_printed true b p q s small =
     record { open_still = λ rest. rw is (rw next refl); printed = rw is (rw p refl) }
 by_printed false b p q s small =
     let is = escaped_digits b q s p in
-    let high = digit_next (get_or lower_digits (b / 16) 0) (low_digit (b / 16) (omega arith)) in
-    let low = digit_next (get_or lower_digits (b % 16) 0) (low_digit (b % 16) (omega arith)) in
+    let high = digit_next (get_or lower_digits (b / 16) 0) ((digit_back (b / 16) (omega arith)).0) in
+    let low = digit_next (get_or lower_digits (b % 16) 0) ((digit_back (b % 16) (omega arith)).0) in
     let e = pair_next.0 in
     let x = pair_next.3 in
     record { open_still = λ rest. rw is (rw (e, x, high.0, low.0) refl); printed = rw is (rw (high.1, low.1) refl) }
@@ -188,29 +188,29 @@ open_one b small =
       ]
     ]
 
-open_all : (s : List ℕ) → NoZeros s → stays Quoted (flat_map escaped s ++ 34 ∷ []) ≡ true
+open_all : (s : List ℕ) → NoZeros s → stays Quoted (flat_map byte_escape s ++ 34 ∷ []) ≡ true
 open_all [] h = let e = pair_next.4 in rw e refl
 open_all (b ∷ s) h =
-    rw (append_assoc (escaped b) (flat_map escaped s) (34 ∷ []))
-    ((open_one b (h.small 0)).open_still (flat_map escaped s ++ 34 ∷ []) ∙ open_all s (rest_of b s h))
+    rw (append_assoc (byte_escape b) (flat_map byte_escape s) (34 ∷ []))
+    ((open_one b (h.small 0)).open_still (flat_map byte_escape s ++ 34 ∷ []) ∙ open_all s (rest_of b s h))
 
-printed_all : (s : List ℕ) → NoZeros s → list_all is_printed (flat_map escaped s) ≡ true
+printed_all : (s : List ℕ) → NoZeros s → list_all is_printed (flat_map byte_escape s) ≡ true
 printed_all [] h = refl
-printed_all (b ∷ s) h = printed_both (escaped b) (flat_map escaped s) (open_one b (h.small 0)).printed (printed_all s (rest_of b s h))
+printed_all (b ∷ s) h = printed_both (byte_escape b) (flat_map byte_escape s) (open_one b (h.small 0)).printed (printed_all s (rest_of b s h))
 
 -- a quoted string is one field
-pub quoted_field : (s : List ℕ) → NoZeros s → IsField (34 ∷ (flat_map escaped s ++ 34 ∷ []))
+pub quoted_field : (s : List ℕ) → NoZeros s → IsField (34 ∷ (flat_map byte_escape s ++ 34 ∷ []))
 quoted_field s h =
     let e = pair_next.5 in
     record {
       one = rw e (open_all s h);
-      printed = printed_both (flat_map escaped s) (34 ∷ []) (printed_all s h) refl;
-      dark = dark_more 34 (flat_map escaped s ++ 34 ∷ []) (dark_behind (flat_map escaped s) (34 ∷ []) refl);
+      printed = printed_both (flat_map byte_escape s) (34 ∷ []) (printed_all s h) refl;
+      dark = dark_more 34 (flat_map byte_escape s ++ 34 ∷ []) (dark_behind (flat_map byte_escape s) (34 ∷ []) refl);
     }
 
 -- a line of fields has printed bytes alone, and ends with no blank
-pub line_printed : (f : List ℕ) (fs : List (List ℕ)) → IsField f → AreFields fs → (list_all is_printed (f ++ flat_map spaced fs) ≡ true) × (ends_dark (f ++ flat_map spaced fs) ≡ true)
+pub line_printed : (f : List ℕ) (fs : List (List ℕ)) → IsField f → AreFields fs → (list_all is_printed (f ++ flat_map after_space fs) ≡ true) × (ends_dark (f ++ flat_map after_space fs) ≡ true)
 line_printed f [] one all = rw (append-nil f) (one.printed, one.dark)
 line_printed f (g ∷ fs) one all =
     let more = line_printed g fs all.0 all.1 in
-    (printed_both f (32 ∷ (g ++ flat_map spaced fs)) one.printed more.0, dark_behind f (32 ∷ (g ++ flat_map spaced fs)) (dark_more 32 (g ++ flat_map spaced fs) more.1))
+    (printed_both f (32 ∷ (g ++ flat_map after_space fs)) one.printed more.0, dark_behind f (32 ∷ (g ++ flat_map after_space fs)) (dark_more 32 (g ++ flat_map after_space fs) more.1))

@@ -4,7 +4,7 @@ use Rattle.std.proofs.lemmas.Bool.{false≢true}
 use Rattle.std.proofs.lemmas.List.{drop_all, take_more}
 use Rattle.glk_objtext.specs.declared.fields.Mode.{Mode}
 use Rattle.glk_objtext.specs.declared.fields.Mode.TheVariants.{Between, Bare, Quoted, Escaped}
-use Rattle.glk_objtext.specs.Fields.{next_mode, is_between, ended, fields_from, field_at, opened}
+use Rattle.glk_objtext.specs.Fields.{next_mode, is_between, field_ended, fields_from, field_at, open_count}
 
 -- a mode that is between fields
 pub only_between : (m : Mode) → is_between m ≡ true → m ≡ Between
@@ -14,7 +14,7 @@ only_between Quoted h = absurd (false≢true h)
 only_between Escaped h = absurd (false≢true h)
 
 -- a byte after which no field is open
-pub byte_ends : (m : Mode) (f s : List ℕ) (b : ℕ) → is_between (next_mode m b) ≡ true → fields_from m f (b ∷ s) ≡ ended m f ++ fields_from Between [] s
+pub byte_ends : (m : Mode) (f s : List ℕ) (b : ℕ) → is_between (next_mode m b) ≡ true → fields_from m f (b ∷ s) ≡ field_ended m f ++ fields_from Between [] s
 unfolding fields_from
 byte_ends m f s b h = rw h refl
 
@@ -23,11 +23,11 @@ pub byte_goes_on : (m : Mode) (f s : List ℕ) (b : ℕ) → is_between (next_mo
 unfolding fields_from
 byte_goes_on m f s b h = rw h refl
 
-pub at_end : (m : Mode) (f : List ℕ) → fields_from m f [] ≡ ended m f
+pub at_end : (m : Mode) (f : List ℕ) → fields_from m f [] ≡ field_ended m f
 unfolding fields_from
 at_end m f = refl
 
-length-ended : (m : Mode) (f : List ℕ) → length (ended m f) ≡ opened m
+length-ended : (m : Mode) (f : List ℕ) → length (field_ended m f) ≡ open_count m
 length-ended Between f = refl
 length-ended Bare f = refl
 length-ended Quoted f = refl
@@ -38,27 +38,27 @@ pub same_count : (m : Mode) (f g s : List ℕ) → length (fields_from m f s) �
 unfolding fields_from
 same_count m f g [] = length-ended m f ∙ sym (length-ended m g)
 same_count m f g (b ∷ s) =
-    elim (is_between (next_mode m b)) as (λ v. length (cond v (ended m f ++ fields_from Between [] s) (fields_from (next_mode m b) (f ++ b ∷ []) s)) ≡ length (cond v (ended m g ++ fields_from Between [] s) (fields_from (next_mode m b) (g ++ b ∷ []) s))) [
+    elim (is_between (next_mode m b)) as (λ v. length (cond v (field_ended m f ++ fields_from Between [] s) (fields_from (next_mode m b) (f ++ b ∷ []) s)) ≡ length (cond v (field_ended m g ++ fields_from Between [] s) (fields_from (next_mode m b) (g ++ b ∷ []) s))) [
       | true ↦ let e = length-ended m f in let d = length-ended m g in simp length-append (omega (arith, e, d))
       | false ↦ same_count (next_mode m b) (f ++ b ∷ []) (g ++ b ∷ []) s
     ]
 
 -- one more byte, counted
 pub count_step : (m next : Mode) (b n e : ℕ) (line : List ℕ) (i all : ℕ) → i < length line → b ≡ get_or line i 0 → next ≡ next_mode m b
-    → e ≡ cond (is_between next) (opened m) 0
+    → e ≡ cond (is_between next) (open_count m) 0
     → n + length (fields_from m [] (drop i line)) ≡ all → n + e + length (fields_from next [] (drop (i + 1) line)) ≡ all
 count_step m next b n k line i all h eb en ek had_all =
     let cut : drop i line ≡ b ∷ drop (i + 1) line = rw eb (rw (add-one, drop-cons line i 0) refl) in
     let had : n + length (fields_from m [] (b ∷ drop (i + 1) line)) ≡ all = rw (← cut) had_all in
-    let P : Bool → Type 0 = λ v. is_between next ≡ v → k ≡ cond v (opened m) 0 → n + k + length (fields_from next [] (drop (i + 1) line)) ≡ all in
+    let P : Bool → Type 0 = λ v. is_between next ≡ v → k ≡ cond v (open_count m) 0 → n + k + length (fields_from next [] (drop (i + 1) line)) ≡ all in
     let cases : (v : Bool) → P v = λ v. elim v as P [
       | true ↦ λ is kk.
           let here : is_between (next_mode m b) ≡ true = rw (← en) is in
           let one = byte_ends m [] (drop (i + 1) line) b here in
           let len = length-ended m [] in
-          let now : n + length (ended m [] ++ fields_from Between [] (drop (i + 1) line)) ≡ all = rw (← one) had in
+          let now : n + length (field_ended m [] ++ fields_from Between [] (drop (i + 1) line)) ≡ all = rw (← one) had in
           let is_it = only_between next is in
-          rw is_it (let l = length-append (ended m []) (fields_from Between [] (drop (i + 1) line)) in omega (arith, l, len, now))
+          rw is_it (let l = length-append (field_ended m []) (fields_from Between [] (drop (i + 1) line)) in omega (arith, l, len, now))
       | false ↦ λ is kk.
           let here : is_between (next_mode m b) ≡ false = rw (← en) is in
           let one = byte_goes_on m [] (drop (i + 1) line) b here in
@@ -75,14 +75,14 @@ few_step true false n e i h k = omega arith
 few_step false true n e i h k = omega arith
 few_step false false n e i h k = omega arith
 
-pub count_end : (m : Mode) (n : ℕ) (line : List ℕ) (i all : ℕ) → length line ≤ i → n + length (fields_from m [] (drop i line)) ≡ all → n + opened m ≡ all
+pub count_end : (m : Mode) (n : ℕ) (line : List ℕ) (i all : ℕ) → length line ≤ i → n + length (fields_from m [] (drop i line)) ≡ all → n + open_count m ≡ all
 count_end m n line i all h e =
     let none : drop i line ≡ [] = drop_all i line h in
     let P : List ℕ → Type 0 = λ r. n + length (fields_from m [] r) ≡ all in
     let now : n + length (fields_from m [] []) ≡ all = subst P none e in
     let k = at_end m [] in
     let len = length-ended m [] in
-    let last : n + length (ended m []) ≡ all = rw (← k) now in
+    let last : n + length (field_ended m []) ≡ all = rw (← k) now in
     omega (arith, len, last)
 
 -- the bytes of the field that is open
@@ -113,7 +113,7 @@ so_far_more true start s b i line h eb low es =
 so_far_more false start s b i line h eb low es = rw es (take_one line start b i h eb low)
 
 -- the field of a number, one byte further on: by whether fields are open before it and after it
-ends : (m : Mode) (u : Bool) → is_between m ≡ u → (b n e : ℕ) (f rest all : List ℕ) → field_at (ended m f ++ fields_from Between [] rest) n ≡ all → e ≡ cond u 0 1 → e ≤ n → field_at (fields_from Between [] rest) (n - e) ≡ all
+ends : (m : Mode) (u : Bool) → is_between m ≡ u → (b n e : ℕ) (f rest all : List ℕ) → field_at (field_ended m f ++ fields_from Between [] rest) n ≡ all → e ≡ cond u 0 1 → e ≤ n → field_at (fields_from Between [] rest) (n - e) ≡ all
 ends m true um b n e f rest all had ee few = let P : Bool → Type 0 = λ v. field_at (cond v [] (f ∷ []) ++ fields_from Between [] rest) n ≡ all in let now = subst P um had in let z : n - e ≡ n = omega arith in rw z now
 ends m false um b n e f rest all had ee few = let P : Bool → Type 0 = λ v. field_at (cond v [] (f ∷ []) ++ fields_from Between [] rest) n ≡ all in let now = subst P um had in let one = after_first f (fields_from Between [] rest) n (omega arith) in rw ee (sym one ∙ now)
 
@@ -149,7 +149,7 @@ here_cases m next false true b n e f rest all um vn en ee few had =
     rw z at last
 
 pub nth_step : (m next : Mode) (b n e start s i : ℕ) (line all : List ℕ) → i < length line → b ≡ get_or line i 0 → next ≡ next_mode m b → start ≤ i
-    → e ≡ cond (is_between next) (opened m) 0 → e ≤ n → s ≡ cond (is_between m) i start
+    → e ≡ cond (is_between next) (open_count m) 0 → e ≤ n → s ≡ cond (is_between m) i start
     → field_at (fields_from m (so_far m start i line) (drop i line)) n ≡ all
     → field_at (fields_from next (so_far next s (i + 1) line) (drop (i + 1) line)) (n - e) ≡ all
 nth_step m next b n e start s i line all h eb en low ee few es had =
@@ -159,7 +159,7 @@ nth_step m next b n e start s i line all h eb en low ee few es had =
 
 -- the field that a byte ends
 pub nth_here : (m next : Mode) (b n e start i : ℕ) (line all : List ℕ) → i < length line → b ≡ get_or line i 0 → next ≡ next_mode m b
-    → e ≡ cond (is_between next) (opened m) 0 → n < e
+    → e ≡ cond (is_between next) (open_count m) 0 → n < e
     → field_at (fields_from m (so_far m start i line) (drop i line)) n ≡ all
     → take (i - start) (drop start line) ≡ all
 nth_here m next b n e start i line all h eb en ee few had =
@@ -186,14 +186,14 @@ end_cases m false n f all um had =
     let last = subst P um now in
     (λ h. let z : n ≡ 0 = omega arith in rw z at last, λ h. past_one f all n h last)
 
-pub nth_last : (m : Mode) (n e start i : ℕ) (line all : List ℕ) → i ≡ length line → e ≡ opened m → n < e
+pub nth_last : (m : Mode) (n e start i : ℕ) (line all : List ℕ) → i ≡ length line → e ≡ open_count m → n < e
     → field_at (fields_from m (so_far m start i line) (drop i line)) n ≡ all → take (length line - start) (drop start line) ≡ all
 nth_last m n e start i line all h ee low had =
     let none = drop_all i line (omega arith) in
     let P : List ℕ → Type 0 = λ r. field_at (fields_from m (so_far m start i line) r) n ≡ all in
     rw (← h) ((end_cases m (is_between m) n (take (i - start) (drop start line)) all refl (subst P none had)).0 (omega arith))
 
-pub nth_none : (m : Mode) (n e start i : ℕ) (line all : List ℕ) → i ≡ length line → e ≡ opened m → e ≤ n
+pub nth_none : (m : Mode) (n e start i : ℕ) (line all : List ℕ) → i ≡ length line → e ≡ open_count m → e ≤ n
     → field_at (fields_from m (so_far m start i line) (drop i line)) n ≡ all → [] ≡ all
 nth_none m n e start i line all h ee low had =
     let none = drop_all i line (omega arith) in

@@ -1,4 +1,3 @@
-pub mod Cuts
 pub mod Exits
 pub mod FieldSteps
 pub mod NumberFacts
@@ -6,6 +5,7 @@ pub mod StringSteps
 pub mod WordSteps
 pub mod ReadSteps
 pub mod Joins
+pub mod Cases
 pub mod SpellingLaws
 pub mod StringLaws
 pub mod TargetLaws

@@ -5,9 +5,9 @@ use Rattle.std.proofs.lemmas.Bool.{and_parts, false≢true}
 use Rattle.std.proofs.lemmas.List.{length-reverse, reverse-append}
 use Rattle.std.proofs.lemmas.List.Elements.{All-nil, All-cons}
 use Rattle.std.proofs.lemmas.List.Splits.{slice_split_at}
-use Rattle.glk_objtext.specs.Lines.{lines, is_blank, trimmed}
+use Rattle.glk_base.specs.Lines.{lines, is_blank, trimmed_line}
 use Rattle.glk_objtext.specs.Strings.{is_printed}
-use Rattle.glk_objtext.specs.Text.{spelled, line_text, texts}
+use Rattle.glk_objtext.specs.Text.{whole_line, line_text, texts}
 use Rattle.glk_objtext.specs.declared.line.Line.{Line}
 use Rattle.glk_objtext.proofs.FieldLaws.{ends_dark, not_so}
 
@@ -25,8 +25,8 @@ dark_end (b ∷ c ∷ s) h =
     rw (reverse-append (b ∷ []) (c ∷ s)) (front_none (reverse (c ∷ s)) (b ∷ []) (omega (arith, len)) (dark_end (c ∷ s) h))
 
 -- a line that begins and ends with no blank is trimmed
-pub trimmed_back : (line : List ℕ) → prefix_len is_blank line ≡ 0 → ends_dark line ≡ true → trimmed line ≡ line
-unfolding trimmed
+pub trimmed_back : (line : List ℕ) → prefix_len is_blank line ≡ 0 → ends_dark line ≡ true → trimmed_line line ≡ line
+unfolding trimmed_line
 trimmed_back line front end =
     let e : suffix_len is_blank line ≡ 0 = dark_end line end in
     rw (front, e) (take_all (length line - 0) line (omega arith))
@@ -46,7 +46,7 @@ ArePrinted (l ∷ ls) = (list_all is_printed (line_text l) ≡ true) × ArePrint
 
 -- the lines of the text of lines; behind the last newline stands an empty one
 pub lines_back : (ls : List Line) → ArePrinted ls → lines (texts ls) ≡ map line_text ls ++ [] ∷ []
-unfolding lines spelled
+unfolding lines whole_line
 lines_back [] h = refl
 lines_back (l ∷ ls) h =
     ap (slice_split (λ b. eqb b 10)) (append_assoc (line_text l) (10 ∷ []) (texts ls))

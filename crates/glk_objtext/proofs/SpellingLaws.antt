@@ -1,5 +1,5 @@
 -- Reading a canonical spelling gives back what was spelled.
-use Rattle.std.proofs.Common.{◌≡◌, ℕ, ℤ, pos, negsuc, ◌+◌, ◌-◌, ◌*◌, ◌/◌, ◌%◌, ◌^◌, ◌<◌, ◌≤◌, ◌∙◌, Bool, true, false, List, [], ◌∷◌, length, get_or, refl, ap, arith, zero, suc, Ok, eqb}
+use Rattle.std.proofs.Common.{◌≡◌, ℕ, ℤ, pos, negsuc, ◌+◌, ◌-◌, ◌*◌, ◌/◌, ◌%◌, ◌^◌, ◌<◌, ◌≤◌, ◌∙◌, Bool, true, false, List, [], ◌∷◌, length, get_or, refl, ap, arith, suc, Ok, eqb}
 use Rattle.std.specs.Prelude.{decimal}
 use Rattle.std.specs.Fmt.{signed_decimal}
 use Rattle.std.specs.List.{list_all}
@@ -12,6 +12,7 @@ use Rattle.hex.proofs.HexLemmas.{decode_of-encode_lower, length-encode_with}
 use Rattle.glk_objtext.specs.Numbers.{signed_of, IsWithin}
 use Rattle.glk_objtext.specs.Octets.{octets_of, octets_text, pairs_of, sized_of}
 use Rattle.glk_objtext.specs.Strings.{is_low_hex}
+use Rattle.glk_objtext.proofs.Cases.{digit_back}
 use Rattle.glk_objtext.proofs.NumberFacts.{number_read, below_is}
 
 pub differs : (a b : List ℕ) → (a ≡ b → ⊥) → bytes_eq a b ≡ false
@@ -33,33 +34,13 @@ signed_read limit (pos n) few low =
 signed_read limit (negsuc n) few low = rw (number_read (limit + 1) (suc n) (omega arith) (omega arith)) (below_is (suc n) (omega arith) ∙ (let e : suc n - 1 ≡ n = omega arith in rw e refl))
 
 -- the digits of bytes are lower-case ones
-pub low_digit : (n : ℕ) → n < 16 → is_low_hex (get_or lower_digits n 0) ≡ true
-unfolding is_low_hex
-low_digit zero h = refl
-low_digit (suc zero) h = refl
-low_digit (suc (suc zero)) h = refl
-low_digit (suc (suc (suc zero))) h = refl
-low_digit (suc (suc (suc (suc zero)))) h = refl
-low_digit (suc (suc (suc (suc (suc zero))))) h = refl
-low_digit (suc (suc (suc (suc (suc (suc zero)))))) h = refl
-low_digit (suc (suc (suc (suc (suc (suc (suc zero))))))) h = refl
-low_digit (suc (suc (suc (suc (suc (suc (suc (suc zero)))))))) h = refl
-low_digit (suc (suc (suc (suc (suc (suc (suc (suc (suc zero))))))))) h = refl
-low_digit (suc (suc (suc (suc (suc (suc (suc (suc (suc (suc zero)))))))))) h = refl
-low_digit (suc (suc (suc (suc (suc (suc (suc (suc (suc (suc (suc zero))))))))))) h = refl
-low_digit (suc (suc (suc (suc (suc (suc (suc (suc (suc (suc (suc (suc zero)))))))))))) h = refl
-low_digit (suc (suc (suc (suc (suc (suc (suc (suc (suc (suc (suc (suc (suc zero))))))))))))) h = refl
-low_digit (suc (suc (suc (suc (suc (suc (suc (suc (suc (suc (suc (suc (suc (suc zero)))))))))))))) h = refl
-low_digit (suc (suc (suc (suc (suc (suc (suc (suc (suc (suc (suc (suc (suc (suc (suc zero))))))))))))))) h = refl
-low_digit (suc (suc (suc (suc (suc (suc (suc (suc (suc (suc (suc (suc (suc (suc (suc (suc n)))))))))))))))) h = absurd (omega arith)
-
 pub all_low : (s : List ℕ) → ((i : ℕ) → get_or s i 0 < 256) → list_all is_low_hex (encode_lower s) ≡ true
 unfolding encode_with
 all_low [] h = refl
 all_low (b ∷ s) h =
     let small : b < 256 = h 0 in
-    let high = low_digit (b / 16) (omega arith) in
-    let low = low_digit (b % 16) (omega arith) in
+    let high = (digit_back (b / 16) (omega arith)).0 in
+    let low = (digit_back (b % 16) (omega arith)).0 in
     rw (high, low) (all_low s (λ i. h (suc i)))
 
 pub pairs_read : (s : List ℕ) → IsBytes s → pairs_of (encode_lower s) ≡ Ok s

@@ -1,20 +1,20 @@
 -- Each spelling is one field.
-use Rattle.std.proofs.Common.{◌≡◌, ℕ, ℤ, pos, negsuc, suc, ◌^◌, ◌<◌, ◌≤◌, Bool, true, false, List, [], ◌∷◌, ◌++◌, length, refl, arith, inl, inr, ◌⊎◌, cond, length-append}
+use Rattle.std.proofs.Common.{◌≡◌, ℕ, ℤ, pos, negsuc, suc, ◌^◌, ◌<◌, ◌≤◌, true, false, List, [], ◌∷◌, ◌++◌, length, refl, arith, eqb, codes, length-append}
 use Rattle.std.specs.Prelude.{decimal}
 use Rattle.std.specs.Fmt.{signed_decimal}
-use Rattle.std.specs.List.{list_all, flat_map, prefix_len}
+use Rattle.std.specs.List.{list_all, prefix_len}
 use Rattle.std.specs.Str.Parse.{AllDigits}
-use Rattle.std.proofs.lemmas.Bool.{cases_eq, cases_lt, and_parts, false≢true}
+use Rattle.std.proofs.lemmas.Bool.{and_parts, false≢true}
 use Rattle.std.proofs.lemmas.Fmt.{decimal_is_IsNumeral}
 use Rattle.std.proofs.lemmas.Str.Parse.{digit_from_value}
 use Rattle.hex.specs.Hex.{IsBytes, encode_lower, lower_digits}
 use Rattle.hex.proofs.HexLemmas.{length-encode_with}
 use Rattle.glk_obj.specs.declared.records.SymRef.{SymRef}
 use Rattle.glk_objdesc.specs.declared.desc.SymDesc.{SymDesc}
-use Rattle.glk_objtext.specs.Lines.{is_blank, says_nothing}
+use Rattle.glk_base.specs.Lines.{is_blank, is_skipped}
 use Rattle.glk_objtext.specs.Numbers.{IsWithin}
 use Rattle.glk_objtext.specs.Octets.{octets_text}
-use Rattle.glk_objtext.specs.Strings.{is_bare, is_bare_byte, is_low_hex, string_text, escaped, NoZeros}
+use Rattle.glk_objtext.specs.Strings.{is_bare, is_bare_byte, is_low_hex, string_text, NoZeros}
 use Rattle.glk_objtext.specs.Targets.{target_text, package_text}
 use Rattle.glk_objtext.specs.Text.{symbol_fields, hash_fields, fields_of_line}
 use Rattle.glk_objtext.specs.Fields.{next_mode}
@@ -26,7 +26,7 @@ use Rattle.glk_objtext.specs.declared.line.Line.TheVariants.{Header, Import, Pac
 use Rattle.glk_objtext.specs.declared.words.Word.{Word}
 use Rattle.glk_objtext.specs.declared.words.Word.TheVariants.{Object, Autolib, Pkg, File, Def, Hash64, Hash, Data, Reloc, Aux, Ndef, Ref, RefFlags, RefName}
 use Rattle.glk_objtext.proofs.SpellingLaws.{all_low}
-use Rattle.glk_objtext.proofs.TargetLaws.{number_spelling}
+use Rattle.glk_objtext.proofs.Cases.{OfWords, by_package, number_spelling, by_spelling}
 use Rattle.glk_objtext.proofs.FieldLaws.{IsField, AreFields, bare_field, quoted_field}
 use Rattle.glk_objtext.proofs.ValueLaws.{IsSpelt, IsSpeltSymbol, IsSpeltHash, within_word, within_long}
 
@@ -87,33 +87,14 @@ octets_field (b ∷ s) h =
     bare_some (encode_lower (b ∷ s)) (omega (arith, len)) (all_bare (encode_lower (b ∷ s)) (all_low (b ∷ s) h))
 
 -- references
-word_bare : (n : ℕ) → (n ≡ 0) ⊎ (2147483643 ≤ n) → n < 2147483648 → list_all is_bare_byte (package_text n) ≡ true
+word_bare : OfWords (λ n. list_all is_bare_byte (package_text n) ≡ true)
 unfolding package_text is_bare_byte
-word_bare n (inl e) h = rw e refl
-word_bare n (inr high) h =
-    elim (cases_eq n 2147483647) [
-      | inl a ↦ rw a refl
-      | inr na ↦ elim (cases_eq n 2147483646) [
-        | inl b ↦ rw b refl
-        | inr nb ↦ elim (cases_eq n 2147483645) [
-          | inl c ↦ rw c refl
-          | inr nc ↦ elim (cases_eq n 2147483644) [
-            | inl d ↦ rw d refl
-            | inr nd ↦ let e : n ≡ 2147483643 = omega arith in rw e refl
-          ]
-        ]
-      ]
-    ]
+word_bare = (refl, refl, refl, refl, refl, refl)
 
 package_bare : (n : ℕ) → n < 2 ^ 31 → list_all is_bare_byte (package_text n) ≡ true
 package_bare n h =
-    elim (cases_eq n 0) [
-      | inl e ↦ word_bare n (inl e) h
-      | inr some ↦ elim (cases_lt n 2147483643) [
-        | inl low ↦ rw (number_spelling n (omega arith) low) (decimal_bare n (omega arith))
-        | inr high ↦ word_bare n (inr high) h
-      ]
-    ]
+    by_package (λ k. list_all is_bare_byte (package_text k) ≡ true) word_bare
+    (λ k some low. rw (number_spelling k some low) (decimal_bare k (omega arith))) n h
 
 colon_bare : is_bare_byte 58 ≡ true
 unfolding is_bare_byte
@@ -133,13 +114,8 @@ unfolding is_bare
 bare_string [] h = absurd (false≢true h)
 bare_string (b ∷ s) h = bare_field b s (and_parts _ (list_all is_bare_byte (b ∷ s)) h).1
 
-by_bare : (v : Bool) (s : List ℕ) → is_bare s ≡ v → NoZeros s → IsField (cond v s (34 ∷ (flat_map escaped s ++ 34 ∷ [])))
-by_bare true s bare h = bare_string s bare
-by_bare false s bare h = quoted_field s h
-
 string_field : (s : List ℕ) → NoZeros s → IsField (string_text s)
-unfolding string_text
-string_field s h = by_bare (is_bare s) s refl h
+string_field s h = by_spelling IsField s (bare_string s) (quoted_field s h)
 
 -- the words of lines are fields, and begin with no blank and with no mark of a comment
 pub word_field : (w : Word) → IsField (spelling w)
@@ -159,24 +135,29 @@ word_field Ref = record { one = refl; printed = refl; dark = refl }
 word_field RefFlags = record { one = refl; printed = refl; dark = refl }
 word_field RefName = record { one = refl; printed = refl; dark = refl }
 
-pub word_front : (w : Word) (rest : List ℕ) → (prefix_len is_blank (spelling w ++ rest) ≡ 0) × (says_nothing (spelling w ++ rest) ≡ false)
-unfolding spelling says_nothing
-word_front Object rest = (refl, refl)
-word_front Autolib rest = (refl, refl)
-word_front Pkg rest = (refl, refl)
-word_front File rest = (refl, refl)
-word_front Def rest = (refl, refl)
-word_front Hash64 rest = (refl, refl)
-word_front Hash rest = (refl, refl)
-word_front Data rest = (refl, refl)
-word_front Reloc rest = (refl, refl)
-word_front Aux rest = (refl, refl)
-word_front Ndef rest = (refl, refl)
-word_front Ref rest = (refl, refl)
-word_front RefFlags rest = (refl, refl)
-word_front RefName rest = (refl, refl)
+not_skipped : (b : ℕ) (w rest : List ℕ) → eqb b 35 ≡ false → is_skipped ((b ∷ w) ++ rest) ≡ false
+not_skipped b w rest h =
+    let some : eqb (length ((b ∷ w) ++ rest)) 0 ≡ false = grind arith in
+    rw (some, h) refl
 
--- the fields of a symbol, and those behind them
+pub word_prefix : (w : Word) (rest : List ℕ) → (prefix_len is_blank (spelling w ++ rest) ≡ 0) × (is_skipped (spelling w ++ rest) ≡ false)
+unfolding spelling
+word_prefix Object rest = (refl, not_skipped 111 (codes "bject") rest refl)
+word_prefix Autolib rest = (refl, not_skipped 97 (codes "utolib") rest refl)
+word_prefix Pkg rest = (refl, not_skipped 112 (codes "kg") rest refl)
+word_prefix File rest = (refl, not_skipped 102 (codes "ile") rest refl)
+word_prefix Def rest = (refl, not_skipped 100 (codes "ef") rest refl)
+word_prefix Hash64 rest = (refl, not_skipped 104 (codes "ash64") rest refl)
+word_prefix Hash rest = (refl, not_skipped 104 (codes "ash") rest refl)
+word_prefix Data rest = (refl, not_skipped 100 (codes "ata") rest refl)
+word_prefix Reloc rest = (refl, not_skipped 114 (codes "eloc") rest refl)
+word_prefix Aux rest = (refl, not_skipped 97 (codes "ux") rest refl)
+word_prefix Ndef rest = (refl, not_skipped 110 (codes "def") rest refl)
+word_prefix Ref rest = (refl, not_skipped 114 (codes "ef") rest refl)
+word_prefix RefFlags rest = (refl, not_skipped 114 (codes "efflags") rest refl)
+word_prefix RefName rest = (refl, not_skipped 114 (codes "efname") rest refl)
+
+-- the fields of a symbol, and those after them
 symbol_spelt : (s : SymDesc) (more : List (List ℕ)) → IsSpeltSymbol s → AreFields more → AreFields (symbol_fields s ++ more)
 symbol_spelt s more h rest =
     let t = h.typed in

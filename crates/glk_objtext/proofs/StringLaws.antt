@@ -1,33 +1,13 @@
 -- Reading a string's canonical spelling gives back the string.
-use Rattle.std.proofs.Common.{◌≡◌, ℕ, ◌+◌, ◌*◌, ◌/◌, ◌%◌, ◌<◌, ◌∙◌, Bool, true, false, List, [], ◌∷◌, ◌++◌, get_or, refl, ap, arith, zero, suc, inl, inr, Ok, Some, eqb, cond, append_assoc}
+use Rattle.std.proofs.Common.{◌≡◌, ℕ, ◌+◌, ◌*◌, ◌/◌, ◌%◌, ◌<◌, ◌∙◌, Bool, true, false, List, [], ◌∷◌, ◌++◌, get_or, refl, ap, arith, suc, inl, inr, Ok, Some, eqb, append_assoc}
 use Rattle.std.specs.List.{flat_map}
 use Rattle.std.proofs.lemmas.Bool.{cases_eq}
 use Rattle.hex.specs.Hex.{lower_digits}
-use Rattle.glk_objtext.specs.Strings.{is_bare, is_bare_byte, is_printed, is_low_hex, hex_value, is_escaped_byte, step, inside, onto, string_of, escaped, string_text, NoZeros}
+use Rattle.glk_objtext.specs.Strings.{is_bare, is_bare_byte, is_printed, is_low_hex, hex_value, is_escaped_byte, step, inside, onto, string_of, byte_escape, string_text, NoZeros}
 use Rattle.glk_objtext.specs.declared.strings.Inside.TheVariants.{Plain, Pair, HighDigit, LowDigit}
 use Rattle.glk_objtext.specs.declared.strings.Step.TheVariants.{Into, Stands, End}
 use Rattle.glk_objtext.proofs.StringSteps.{one_into, one_stands, one_end}
-use Rattle.glk_objtext.proofs.SpellingLaws.{low_digit}
-
-value_of_low : (n : ℕ) → n < 16 → hex_value (get_or lower_digits n 0) ≡ n
-unfolding hex_value
-value_of_low zero h = refl
-value_of_low (suc zero) h = refl
-value_of_low (suc (suc zero)) h = refl
-value_of_low (suc (suc (suc zero))) h = refl
-value_of_low (suc (suc (suc (suc zero)))) h = refl
-value_of_low (suc (suc (suc (suc (suc zero))))) h = refl
-value_of_low (suc (suc (suc (suc (suc (suc zero)))))) h = refl
-value_of_low (suc (suc (suc (suc (suc (suc (suc zero))))))) h = refl
-value_of_low (suc (suc (suc (suc (suc (suc (suc (suc zero)))))))) h = refl
-value_of_low (suc (suc (suc (suc (suc (suc (suc (suc (suc zero))))))))) h = refl
-value_of_low (suc (suc (suc (suc (suc (suc (suc (suc (suc (suc zero)))))))))) h = refl
-value_of_low (suc (suc (suc (suc (suc (suc (suc (suc (suc (suc (suc zero))))))))))) h = refl
-value_of_low (suc (suc (suc (suc (suc (suc (suc (suc (suc (suc (suc (suc zero)))))))))))) h = refl
-value_of_low (suc (suc (suc (suc (suc (suc (suc (suc (suc (suc (suc (suc (suc zero))))))))))))) h = refl
-value_of_low (suc (suc (suc (suc (suc (suc (suc (suc (suc (suc (suc (suc (suc (suc zero)))))))))))))) h = refl
-value_of_low (suc (suc (suc (suc (suc (suc (suc (suc (suc (suc (suc (suc (suc (suc (suc zero))))))))))))))) h = refl
-value_of_low (suc (suc (suc (suc (suc (suc (suc (suc (suc (suc (suc (suc (suc (suc (suc (suc n)))))))))))))))) h = absurd (omega arith)
+use Rattle.glk_objtext.proofs.Cases.{digit_back, by_spelling}
 
 plain_pair : step Plain 92 ≡ Into Pair
 unfolding step
@@ -59,40 +39,40 @@ plain_byte : (b : ℕ) → eqb b 34 ≡ false → eqb b 92 ≡ false → is_prin
 unfolding step
 plain_byte b q s p = rw (q, s, p) refl
 
-pub escaped_plain : (b : ℕ) → eqb b 34 ≡ false → eqb b 92 ≡ false → is_printed b ≡ true → escaped b ≡ b ∷ []
-unfolding escaped
+pub escaped_plain : (b : ℕ) → eqb b 34 ≡ false → eqb b 92 ≡ false → is_printed b ≡ true → byte_escape b ≡ b ∷ []
+unfolding byte_escape
 escaped_plain b q s p = rw (q, s, p) refl
 
-pub escaped_digits : (b : ℕ) → eqb b 34 ≡ false → eqb b 92 ≡ false → is_printed b ≡ false → escaped b ≡ 92 ∷ 120 ∷ get_or lower_digits (b / 16) 0 ∷ get_or lower_digits (b % 16) 0 ∷ []
-unfolding escaped
+pub escaped_digits : (b : ℕ) → eqb b 34 ≡ false → eqb b 92 ≡ false → is_printed b ≡ false → byte_escape b ≡ 92 ∷ 120 ∷ get_or lower_digits (b / 16) 0 ∷ get_or lower_digits (b % 16) 0 ∷ []
+unfolding byte_escape
 escaped_digits b q s p = rw (q, s, p) refl
 
-pub escaped_quote : escaped 34 ≡ 92 ∷ 34 ∷ []
-unfolding escaped
+pub escaped_quote : byte_escape 34 ≡ 92 ∷ 34 ∷ []
+unfolding byte_escape
 escaped_quote = refl
 
-pub escaped_backslash : escaped 92 ≡ 92 ∷ 92 ∷ []
-unfolding escaped
+pub escaped_backslash : byte_escape 92 ≡ 92 ∷ 92 ∷ []
+unfolding byte_escape
 escaped_backslash = refl
 
-by_printed : (v : Bool) (b : ℕ) (rest : List ℕ) → is_printed b ≡ v → eqb b 34 ≡ false → eqb b 92 ≡ false → 0 < b → b < 256 → inside Plain (escaped b ++ rest) ≡ onto b (inside Plain rest)
+by_printed : (v : Bool) (b : ℕ) (rest : List ℕ) → is_printed b ≡ v → eqb b 34 ≡ false → eqb b 92 ≡ false → 0 < b → b < 256 → inside Plain (byte_escape b ++ rest) ≡ onto b (inside Plain rest)
 by_printed true b rest p q s some small = rw (escaped_plain b q s p) (one_stands Plain b b rest (plain_byte b q s p))
 by_printed false b rest p q s some small =
     let hi = get_or lower_digits (b / 16) 0 in
     let lo = get_or lower_digits (b % 16) 0 in
     let high : b / 16 < 16 = omega arith in
     let low : b % 16 < 16 = omega arith in
-    let hv = value_of_low (b / 16) high in
-    let lv = value_of_low (b % 16) low in
+    let hv = (digit_back (b / 16) high).1 in
+    let lv = (digit_back (b % 16) low).1 in
     let sum : b / 16 * 16 + hex_value lo ≡ b = omega (arith, lv) in
     rw (escaped_digits b q s p)
     (one_into Plain Pair 92 (120 ∷ hi ∷ lo ∷ rest) plain_pair
     ∙ one_into Pair HighDigit 120 (hi ∷ lo ∷ rest) pair_digits
-    ∙ one_into HighDigit (LowDigit (hex_value hi)) hi (lo ∷ rest) (high_digit hi (low_digit (b / 16) high))
-    ∙ (rw hv (one_stands (LowDigit (b / 16)) lo b rest (low_digit_gives (b / 16) lo b (low_digit (b % 16) low) sum some small))))
+    ∙ one_into HighDigit (LowDigit (hex_value hi)) hi (lo ∷ rest) (high_digit hi (digit_back (b / 16) high).0)
+    ∙ (rw hv (one_stands (LowDigit (b / 16)) lo b rest (low_digit_gives (b / 16) lo b (digit_back (b % 16) low).0 sum some small))))
 
 -- one byte, escaped where it has to be
-pub inside_one : (b : ℕ) (rest : List ℕ) → 0 < b → b < 256 → inside Plain (escaped b ++ rest) ≡ onto b (inside Plain rest)
+pub inside_one : (b : ℕ) (rest : List ℕ) → 0 < b → b < 256 → inside Plain (byte_escape b ++ rest) ≡ onto b (inside Plain rest)
 inside_one b rest some small =
     elim (cases_eq b 34) [
       | inl quote ↦ rw quote (rw escaped_quote (one_into Plain Pair 92 (34 ∷ rest) plain_pair ∙ one_stands Pair 34 34 rest pair_quote))
@@ -112,21 +92,23 @@ end_step : step Plain 34 ≡ End
 unfolding step
 end_step = refl
 
-pub inside_all : (s : List ℕ) → NoZeros s → inside Plain (flat_map escaped s ++ 34 ∷ []) ≡ Some s
+pub inside_all : (s : List ℕ) → NoZeros s → inside Plain (flat_map byte_escape s ++ 34 ∷ []) ≡ Some s
 inside_all [] h = one_end Plain 34 [] end_step
 inside_all (b ∷ s) h =
-    rw (append_assoc (escaped b) (flat_map escaped s) (34 ∷ []))
-    (inside_one b (flat_map escaped s ++ 34 ∷ []) (h.some 0 (omega arith)) (h.small 0) ∙ ap (onto b) (inside_all s (rest_of b s h)))
+    rw (append_assoc (byte_escape b) (flat_map byte_escape s) (34 ∷ []))
+    (inside_one b (flat_map byte_escape s ++ 34 ∷ []) (h.some 0 (omega arith)) (h.small 0) ∙ ap (onto b) (inside_all s (rest_of b s h)))
 
 quoted_not_bare : (s : List ℕ) → is_bare (34 ∷ s) ≡ false
 unfolding is_bare is_bare_byte
 quoted_not_bare s = refl
 
-by_bare : (v : Bool) (s : List ℕ) → is_bare s ≡ v → NoZeros s → string_of (cond v s (34 ∷ (flat_map escaped s ++ 34 ∷ []))) ≡ Ok s
+bare_read : (s : List ℕ) → is_bare s ≡ true → string_of s ≡ Ok s
 unfolding string_of
-by_bare true s bare h = rw bare refl
-by_bare false s bare h = rw (quoted_not_bare (flat_map escaped s ++ 34 ∷ [])) (rw (inside_all s h) refl)
+bare_read s bare = rw bare refl
+
+quoted_read : (s : List ℕ) → NoZeros s → string_of (34 ∷ (flat_map byte_escape s ++ 34 ∷ [])) ≡ Ok s
+unfolding string_of
+quoted_read s h = rw (quoted_not_bare (flat_map byte_escape s ++ 34 ∷ [])) (rw (inside_all s h) refl)
 
 pub string_read : (s : List ℕ) → NoZeros s → string_of (string_text s) ≡ Ok s
-unfolding string_text
-string_read s h = by_bare (is_bare s) s refl h
+string_read s h = by_spelling (λ t. string_of t ≡ Ok s) s (bare_read s) (quoted_read s h)

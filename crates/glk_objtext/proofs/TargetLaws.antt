@@ -1,10 +1,10 @@
 -- Reading a reference's canonical spelling gives back the reference.
-use Rattle.std.proofs.Common.{◌≡◌, ℕ, ◌^◌, ◌<◌, ◌≤◌, true, false, not, List, [], ◌∷◌, ◌++◌, length, get_or, refl, ap, arith, ◌⊎◌, inl, inr, Ok, eqb, nat_lt, codes, length-append}
+use Rattle.std.proofs.Common.{◌≡◌, ℕ, ◌^◌, ◌<◌, ◌≤◌, true, false, not, List, [], ◌∷◌, ◌++◌, length, get_or, refl, ap, arith, Ok, eqb, nat_lt, codes, length-append}
 use Rattle.std.specs.Prelude.{decimal}
 use Rattle.std.specs.List.{list_all, position_or_len}
 use Rattle.std.specs.Str.{bytes_eq}
 use Rattle.std.specs.Str.Parse.{AllDigits}
-use Rattle.std.proofs.lemmas.Bool.{cases_eq, cases_lt, and_parts}
+use Rattle.std.proofs.lemmas.Bool.{and_parts}
 use Rattle.std.proofs.Math.Seq.{take-append_seam}
 use Rattle.std.proofs.Math.Seq.{drop-append-add}
 use Rattle.std.proofs.lemmas.Fmt.{decimal_is_IsNumeral}
@@ -12,6 +12,7 @@ use Rattle.std.proofs.lemmas.Str.Parse.{digit_from_value}
 use Rattle.glk_obj.specs.declared.records.SymRef.{SymRef}
 use Rattle.glk_objtext.specs.Targets.{package_of, package_text, target_of, target_text}
 use Rattle.glk_objtext.proofs.NumberFacts.{number_read}
+use Rattle.glk_objtext.proofs.Cases.{OfWords, by_package, number_spelling}
 use Rattle.glk_objtext.proofs.SpellingLaws.{differs, first_digit}
 
 -- a number is no word
@@ -26,49 +27,15 @@ entry_read n some low =
     rw (not_word n (codes "nil") h (omega arith), not_word n (codes "none") h (omega arith), not_word n (codes "h64") h (omega arith), not_word n (codes "h") h (omega arith), not_word n (codes "builtin") h (omega arith), not_word n (codes "self") h (omega arith))
     (rw (number_read 2147483643 n (omega arith) low) (rw z refl))
 
-by_text : (n : ℕ) (t : List ℕ) → package_text n ≡ t → package_of t ≡ Ok n → package_of (package_text n) ≡ Ok n
-by_text n t e h = rw e h
-
-pub number_spelling : (n : ℕ) → 0 < n → n < 2147483643 → package_text n ≡ decimal n
-unfolding package_text
-number_spelling n some low =
-    let a : eqb n 0 ≡ false = grind arith in
-    let b : eqb n 2147483647 ≡ false = grind arith in
-    let c : eqb n 2147483646 ≡ false = grind arith in
-    let d : eqb n 2147483645 ≡ false = grind arith in
-    let e : eqb n 2147483644 ≡ false = grind arith in
-    let f : eqb n 2147483643 ≡ false = grind arith in
-    rw (a, b, c, d, e, f) refl
-
-word_read : (n : ℕ) → (n ≡ 0) ⊎ (2147483643 ≤ n) → n < 2147483648 → package_of (package_text n) ≡ Ok n
+word_read : OfWords (λ n. package_of (package_text n) ≡ Ok n)
 unfolding package_of package_text
-word_read n (inl e) h = rw e refl
-word_read n (inr high) h =
-    elim (cases_eq n 2147483647) [
-      | inl a ↦ rw a refl
-      | inr na ↦ elim (cases_eq n 2147483646) [
-        | inl b ↦ rw b refl
-        | inr nb ↦ elim (cases_eq n 2147483645) [
-          | inl c ↦ rw c refl
-          | inr nc ↦ elim (cases_eq n 2147483644) [
-            | inl d ↦ rw d refl
-            | inr nd ↦ let e : n ≡ 2147483643 = omega arith in rw e refl
-          ]
-        ]
-      ]
-    ]
+word_read = (refl, refl, refl, refl, refl, refl)
 
-pub package_read : (n : ℕ) → n < 2 ^ 31 → package_of (package_text n) ≡ Ok n
+package_read : (n : ℕ) → n < 2 ^ 31 → package_of (package_text n) ≡ Ok n
 package_read n h =
-    elim (cases_eq n 0) [
-      | inl e ↦ word_read n (inl e) h
-      | inr some ↦ elim (cases_lt n 2147483643) [
-        | inl low ↦ rw (number_spelling n (omega arith) low) (entry_read n (omega arith) low)
-        | inr high ↦ word_read n (inr high) h
-      ]
-    ]
+    by_package (λ k. package_of (package_text k) ≡ Ok k) word_read (λ k some low. rw (number_spelling k some low) (entry_read k some low)) n h
 
--- where the colon stands
+-- where the colon is
 colon_at : (p q : List ℕ) → list_all (λ b. not (eqb b 58)) p ≡ true → position_or_len (λ b. eqb b 58) (p ++ 58 ∷ q) ≡ length p
 colon_at [] q h = refl
 colon_at (b ∷ p) q h =
@@ -83,44 +50,30 @@ digits_plain (d ∷ ds) h =
     let e : eqb d 58 ≡ false = grind (arith, r) in
     rw e (digits_plain ds h.1)
 
-word_plain : (n : ℕ) → (n ≡ 0) ⊎ (2147483643 ≤ n) → n < 2147483648 → list_all (λ b. not (eqb b 58)) (package_text n) ≡ true
-unfolding package_text
-word_plain n (inl e) h = rw e refl
-word_plain n (inr high) h =
-    elim (cases_eq n 2147483647) [
-      | inl a ↦ rw a refl
-      | inr na ↦ elim (cases_eq n 2147483646) [
-        | inl b ↦ rw b refl
-        | inr nb ↦ elim (cases_eq n 2147483645) [
-          | inl c ↦ rw c refl
-          | inr nc ↦ elim (cases_eq n 2147483644) [
-            | inl d ↦ rw d refl
-            | inr nd ↦ let e : n ≡ 2147483643 = omega arith in rw e refl
-          ]
-        ]
-      ]
-    ]
+-- no byte of it is a colon
+abbrev IsPlain : List ℕ → Type 0
+IsPlain t = list_all (λ b. not (eqb b 58)) t ≡ true
 
-package_plain : (n : ℕ) → n < 2 ^ 31 → list_all (λ b. not (eqb b 58)) (package_text n) ≡ true
-package_plain n h =
-    elim (cases_eq n 0) [
-      | inl e ↦ word_plain n (inl e) h
-      | inr some ↦ elim (cases_lt n 2147483643) [
-        | inl low ↦
-            let wide : n < 2 ^ 64 = omega arith in
-            rw (number_spelling n (omega arith) low) (digits_plain (decimal n) (decimal_is_IsNumeral n wide).0.1)
-        | inr high ↦ word_plain n (inr high) h
-      ]
-    ]
+word_plain : OfWords (λ n. IsPlain (package_text n))
+unfolding package_text
+word_plain = (refl, refl, refl, refl, refl, refl)
+
+entry_plain : (n : ℕ) → 0 < n → n < 2147483643 → IsPlain (package_text n)
+entry_plain n some low =
+    let wide : n < 2 ^ 64 = omega arith in
+    rw (number_spelling n some low) (digits_plain (decimal n) (decimal_is_IsNumeral n wide).0.1)
+
+package_plain : (n : ℕ) → n < 2 ^ 31 → IsPlain (package_text n)
+package_plain n h = by_package (λ k. IsPlain (package_text k)) word_plain entry_plain n h
 
 pub target_read : (r : SymRef) → r.pkg < 2 ^ 31 → r.sym < 2 ^ 32 → target_of (target_text r) ≡ Ok r
 unfolding target_of target_text
 target_read r low small =
     let p = package_text r.pkg in
     let q = decimal r.sym in
-    let place = colon_at p q (package_plain r.pkg low) in
+    let index = colon_at p q (package_plain r.pkg low) in
     let len = length-append p (58 ∷ q) in
     let inside : nat_lt (length p) (length (p ++ 58 ∷ q)) ≡ true = grind (arith, len) in
     let front = take-append_seam p (58 ∷ q) in
     let back = drop-append-add p (58 ∷ q) 1 in
-    rw (place, inside, front, back) (rw (package_read r.pkg low) (rw (number_read 4294967296 r.sym (omega arith) small) refl))
+    rw (index, inside, front, back) (rw (package_read r.pkg low) (rw (number_read 4294967296 r.sym (omega arith) small) refl))

@@ -10,9 +10,9 @@ use Rattle.glk_objdesc.specs.declared.desc.DefDesc.{DefDesc}
 use Rattle.glk_objdesc.specs.declared.desc.ObjDesc.{ObjDesc}
 use Rattle.glk_objtext.specs.Bytes.{HasBytes, HasBytesDef}
 use Rattle.glk_objtext.specs.Grammar.{at_start, after, line_at}
-use Rattle.glk_objtext.specs.Lines.{trimmed, says_nothing}
-use Rattle.glk_objtext.specs.Reading.{read_lines, read_text, next_number, onto_lines, describing}
-use Rattle.glk_objtext.specs.Text.{spaced, fields_of_line, line_text, content_lines, def_lines, lines_of, text_of}
+use Rattle.glk_base.specs.Lines.{trimmed_line, is_skipped}
+use Rattle.glk_objtext.specs.Reading.{read_lines, read_text, next_number, onto_lines, answer_of_lines}
+use Rattle.glk_objtext.specs.Text.{after_space, fields_of_line, line_text, content_lines, def_lines, lines_of, text_of}
 use Rattle.glk_objtext.specs.Values.{word_of_line}
 use Rattle.glk_objtext.specs.Words.{spelling, word_of, word_among, arity}
 use Rattle.glk_objtext.specs.declared.line.DefBlock.{DefBlock}
@@ -27,7 +27,7 @@ use Rattle.glk_objtext.proofs.FieldLaws.{fields_back, line_printed}
 use Rattle.glk_objtext.proofs.LineLaws.{trimmed_back, lines_back, ArePrinted}
 use Rattle.glk_objtext.proofs.OrderLaws.{MayCome, IsRun, lines_run}
 use Rattle.glk_objtext.proofs.ReadSteps.{passed_over, good_line, all_read}
-use Rattle.glk_objtext.proofs.SpeltFields.{word_field, word_front, line_spelt}
+use Rattle.glk_objtext.proofs.SpeltFields.{word_field, word_prefix, line_spelt}
 use Rattle.glk_objtext.proofs.ValueLaws.{IsSpelt, IsSpeltSymbol, IsSpeltHash, no_zeros, value_back}
 
 -- words are read as they are spelled
@@ -79,10 +79,10 @@ line_back stage line may spelt =
     rw fs (rw (word_back w) (rw begun (rw sorted (rw (counted line (spelling w)) (rw (value_back (spelling w) line spelt) (rw placed (rw sized refl)))))))
 
 -- the bytes of a line, its front and its end
-line_trimmed : (line : Line) → IsSpelt line → trimmed (line_text line) ≡ line_text line
+line_trimmed : (line : Line) → IsSpelt line → trimmed_line (line_text line) ≡ line_text line
 line_trimmed line spelt =
     let w = word_of_line line in
-    trimmed_back (line_text line) (word_front w (flat_map spaced (fields_of_line line))).0 (line_printed (spelling w) (fields_of_line line) (word_field w) (line_spelt line spelt)).1
+    trimmed_back (line_text line) (word_prefix w (flat_map after_space (fields_of_line line))).0 (line_printed (spelling w) (fields_of_line line) (word_field w) (line_spelt line spelt)).1
 
 all_printed : (ls : List Line) → All IsSpelt ls → ArePrinted ls
 all_printed [] h = tt
@@ -91,8 +91,8 @@ all_printed (l ∷ ls) h = (
   all_printed ls (All-tail IsSpelt l ls h),
 )
 
-none_left : says_nothing (trimmed []) ≡ true
-unfolding says_nothing trimmed
+none_left : is_skipped (trimmed_line []) ≡ true
+unfolding trimmed_line
 none_left = refl
 
 -- lines that may come one after the other are read as what they were spelled of
@@ -101,8 +101,8 @@ all_back n stage [] run h = passed_over n stage [] [] none_left ∙ all_read (ne
 all_back n stage (l ∷ ls) run h =
     let spelt = All-head IsSpelt l ls h in
     let same = line_trimmed l spelt in
-    let says : says_nothing (trimmed (line_text l)) ≡ false = rw same ((word_front (word_of_line l) (flat_map spaced (fields_of_line l))).1) in
-    let reads : line_at stage (trimmed (line_text l)) ≡ Ok l = rw same (line_back stage l run.0 spelt) in
+    let says : is_skipped (trimmed_line (line_text l)) ≡ false = rw same ((word_prefix (word_of_line l) (flat_map after_space (fields_of_line l))).1) in
+    let reads : line_at stage (trimmed_line (line_text l)) ≡ Ok l = rw same (line_back stage l run.0 spelt) in
     good_line n stage (line_text l) (map line_text ls ++ [] ∷ []) l says reads
     ∙ ap (onto_lines l) (all_back (next_number n) (after stage l) ls run.1 (All-tail IsSpelt l ls h))
 
@@ -151,6 +151,6 @@ pub text_back : (d : ObjDesc) → IsPrintable d → IsTyped d → HasBytes d →
 unfolding read_text text_of
 text_back d p t b =
     let spelt = all_spelt d p t b in
-    ap (λ (ls : List (List ℕ)). describing (read_lines 1 at_start ls)) (lines_back (lines_of d) (all_printed (lines_of d) spelt))
-    ∙ ap describing (all_back 1 at_start (lines_of d) (lines_run d p) spelt)
+    ap (λ (ls : List (List ℕ)). answer_of_lines (read_lines 1 at_start ls)) (lines_back (lines_of d) (all_printed (lines_of d) spelt))
+    ∙ ap answer_of_lines (all_back 1 at_start (lines_of d) (lines_run d p) spelt)
     ∙ ap (λ (e : ObjDesc). Ok e) (description_back d)

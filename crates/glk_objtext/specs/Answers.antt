@@ -1,4 +1,4 @@
--- Meanings that a rule may refuse, and how a call's answer stands to one.
+-- Meanings that a rule may refuse, and how a call's answer agrees with one.
 use Rattle.std.specs.Prelude.{◌≡◌, ℕ, Bool, true, false, Option, Some, None, Result, Ok, Err}
 use Rattle.glk_base.specs.declared.fault.Fault.{Fault}
 use Rattle.glk_base.specs.declared.fault.Fault.TheVariants.{Bad, OutOfMemory}
@@ -44,7 +44,7 @@ abbrev pub or_rule : {A : Type 0} → ℕ → Option A → Result A ℕ
 or_rule rule (Some x) = Ok x
 or_rule rule None = Err rule
 
--- a call answers this meaning or this refusal, or it wants memory
+-- a call answers this meaning or this refusal, or it runs out of memory
 abbrev pub Gives : {A E : Type 0} → Result A E → Result A (Fault E) → Type 0
 Gives meant (Ok value) = meant ≡ Ok value
 Gives meant (Err (Bad e)) = meant ≡ Err e

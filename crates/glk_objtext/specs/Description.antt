@@ -51,10 +51,10 @@ flag_records [] = []
 flag_records (Flags r ∷ more) = r ∷ flag_records more
 flag_records (line ∷ more) = flag_records more
 
-abbrev pub named : List Line → List RefNameDesc
-named [] = []
-named (Named r ∷ more) = r ∷ named more
-named (line ∷ more) = named more
+abbrev pub ref_names : List Line → List RefNameDesc
+ref_names [] = []
+ref_names (Named r ∷ more) = r ∷ ref_names more
+ref_names (line ∷ more) = ref_names more
 
 -- the data, the relocations and the auxes of a definition: those of the lines up to the first that
 -- is no part of it; these data where none come
@@ -92,13 +92,13 @@ definitions block (Symbol b sym hash ∷ more) =
     else definitions block more
 definitions block (line ∷ more) = definitions block more
 
--- the fingerprint where no `object` line stands
+-- the fingerprint where there is no `object` line
 abbrev pub no_fingerprint : List ℕ
 no_fingerprint = 0 ∷ 0 ∷ 0 ∷ 0 ∷ 0 ∷ 0 ∷ 0 ∷ 0 ∷ []
 
 -- the description that lines make: each list is what the lines of its kind say, in their order
-unfoldable pub described : List Line → ObjDesc
-described lines = record {
+unfoldable pub description_of_lines : List Line → ObjDesc
+description_of_lines lines = record {
   flags = flags_from 0 lines;
   fingerprint = fingerprint_from no_fingerprint lines;
   autolib = imports lines;
@@ -110,5 +110,5 @@ described lines = record {
   ndefs = definitions Nonpkgdef lines;
   refs = references lines;
   ref_flags = flag_records lines;
-  ref_names = named lines;
+  ref_names = ref_names lines;
 }

@@ -27,18 +27,18 @@ is_between Quoted = false
 is_between Escaped = false
 
 -- how many fields are open: one or none
-abbrev pub opened : Mode → ℕ
-opened mode = if is_between mode then 0 else 1
+abbrev pub open_count : Mode → ℕ
+open_count mode = if is_between mode then 0 else 1
 
 -- the field that ends here, where one does
-abbrev pub ended : Mode → List ℕ → List (List ℕ)
-ended mode field = if is_between mode then [] else field ∷ []
+abbrev pub field_ended : Mode → List ℕ → List (List ℕ)
+field_ended mode field = if is_between mode then [] else field ∷ []
 
 -- the fields of what is left, the first of which has begun with these bytes unless none has begun
 unfoldable pub fields_from : Mode → List ℕ → List ℕ → List (List ℕ)
-fields_from mode field [] = ended mode field
+fields_from mode field [] = field_ended mode field
 fields_from mode field (b ∷ rest) =
-    if is_between (next_mode mode b) then ended mode field ++ fields_from Between [] rest
+    if is_between (next_mode mode b) then field_ended mode field ++ fields_from Between [] rest
     else fields_from (next_mode mode b) (field ++ b ∷ []) rest
 
 -- the fields of a line, which one or more spaces part; the line's end ends the last one

@@ -1,6 +1,6 @@
 -- The order of lines, and the least rule that a line breaks.
 use Rattle.std.specs.Prelude.{◌==◌, ◌&&◌, ◌+◌, nat_le, ℕ, Bool, true, false, not, List, length, Option, Some, None, Result, Ok}
-use Rattle.glk_objdesc.specs.Printable.{shortest_hash, longest_hash}
+use Rattle.glk_obj.specs.Rules.{shortest_hash, longest_hash}
 use Rattle.glk_objtext.specs.Answers.{◌>>=◌, demand, misplaced_object, out_of_order, field_count, misplaced_part, hash_length}
 use Rattle.glk_objtext.specs.Fields.{fields, field_at}
 use Rattle.glk_objtext.specs.Words.{word_of, arity, rank}
@@ -37,7 +37,7 @@ is_ordered stage Reloc = true
 is_ordered stage Aux = true
 is_ordered stage w = nat_le stage.rank (rank w)
 
--- under a definition stand its data, at most once, then its relocations, then its auxes
+-- under a definition come its data, at most once, then its relocations, then its auxes
 unfoldable pub has_room : Part → Word → Bool
 has_room Fresh Data = true
 has_room part Data = false
@@ -58,7 +58,7 @@ unfoldable pub fits_width : Option ℕ → Line → Bool
 fits_width width (Symbol Hasheddef sym hash) = is_hash_width width (length hash)
 fits_width width line = true
 
--- how far the lines have come behind a line
+-- how far the lines have come after a line
 unfoldable pub rank_after : ℕ → Word → ℕ
 rank_after before Data = before
 rank_after before Reloc = before

@@ -1,5 +1,4 @@
 pub mod Answers
-pub mod Lines
 pub mod Fields
 pub mod Numbers
 pub mod Strings
@@ -13,3 +12,4 @@ pub mod Reading
 pub mod Building
 pub mod Text
 pub mod Bytes
+pub mod Laws

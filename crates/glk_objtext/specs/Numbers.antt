@@ -1,8 +1,8 @@
 -- Numbers: each has one spelling.
-use Rattle.std.specs.Prelude.{◌==◌, ◌&&◌, ◌+◌, ◌-◌, ◌<◌, nat_lt, ℕ, ℤ, pos, negsuc, List, drop, slice_index, if◌then◌else◌, Result, Ok, Err, decimal}
+use Rattle.std.specs.Prelude.{◌≡◌, ◌==◌, ◌&&◌, ◌+◌, ◌-◌, ◌<◌, ◌^◌, length, min, nat_lt, ℕ, ℤ, pos, negsuc, List, drop, slice_index, if◌then◌else◌, Result, Ok, Err, decimal}
 use Rattle.std.specs.Fmt.{signed_decimal}
 use Rattle.std.specs.Str.{bytes_eq}
-use Rattle.std.specs.Str.Parse.{digits_value}
+use Rattle.std.specs.Str.Parse.{digits_value, AllDigits}
 use Rattle.glk_objtext.specs.Answers.{bad_number, ◌>>=◌}
 
 -- what begins a number below 0
@@ -20,7 +20,7 @@ number_of limit field =
 abbrev pub below_zero : ℕ → Result ℤ ℕ
 below_zero n = if n == 0 then Err bad_number else Ok (negsuc (n - 1))
 
--- The number from -limit to limit - 1 that the field spells; below 0 a minus stands before the
+-- The number from -limit to limit - 1 that the field spells; below 0 a minus comes before the
 -- digits, which are not those of 0.
 unfoldable pub signed_of : ℕ → List ℕ → Result ℤ ℕ
 signed_of limit field =
@@ -38,3 +38,11 @@ signed_text z = signed_decimal z
 abbrev pub IsWithin : ℕ → ℤ → Type 0
 IsWithin limit (pos n) = n < limit
 IsWithin limit (negsuc n) = n < limit
+
+-- one byte at least, and no leading zero
+abbrev pub IsShort : List ℕ → Type 0
+IsShort digits = (0 < length digits) × (slice_index digits 0 ≡ 48 → length digits ≡ 1)
+
+-- the number that digits write, or 2^64 - 1 where it is greater
+abbrev pub IsCappedValue : List ℕ → ℕ → Type 0
+IsCappedValue digits n = AllDigits 10 digits × (n ≡ min (digits_value 10 digits) (2 ^ 64 - 1))

@@ -27,7 +27,7 @@ pairs_of field = if list_all is_low_hex field then or_bad_string (decode_of fiel
 unfoldable pub octets_of : List ℕ → Result (List ℕ) ℕ
 octets_of field = if bytes_eq field (no_bytes ∷ []) then Ok [] else pairs_of field
 
--- so many bytes, and at least one
+-- n bytes, and at least one
 unfoldable pub sized_of : ℕ → List ℕ → Result (List ℕ) ℕ
 sized_of n field = if length field == 2 * n then pairs_of field else Err bad_string
 

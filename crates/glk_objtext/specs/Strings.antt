@@ -4,7 +4,7 @@ use Rattle.std.specs.List.{list_all, flat_map}
 use Rattle.hex.specs.Hex.{lower_digits}
 use Rattle.glk_objtext.specs.Answers.{bad_string, or_rule}
 use Rattle.glk_objtext.specs.Fields.{quote, backslash}
-use Rattle.glk_objtext.specs.Lines.{comment}
+use Rattle.glk_base.specs.Lines.{comment_sign}
 use Rattle.glk_objtext.specs.declared.strings.Inside.{Inside}
 use Rattle.glk_objtext.specs.declared.strings.Inside.TheVariants.{Plain, Pair, HighDigit, LowDigit}
 use Rattle.glk_objtext.specs.declared.strings.Step.{Step}
@@ -25,7 +25,7 @@ is_bare_byte b = nat_le 33 b && nat_le b 126 && not (b == quote) && not (b == ba
 -- a string that stands for itself
 unfoldable pub is_bare : List ℕ → Bool
 is_bare [] = false
-is_bare (b ∷ s) = not (b == comment) && list_all is_bare_byte (b ∷ s)
+is_bare (b ∷ s) = not (b == comment_sign) && list_all is_bare_byte (b ∷ s)
 
 -- a digit of an escape, and its value
 unfoldable pub is_low_hex : ℕ → Bool
@@ -39,7 +39,7 @@ abbrev pub onto : ℕ → Option (List ℕ) → Option (List ℕ)
 onto b (Some s) = Some (b ∷ s)
 onto b None = None
 
--- nothing stands behind the closing quote
+-- nothing comes after the closing quote
 abbrev pub closing : List ℕ → Option (List ℕ)
 closing [] = Some []
 closing (b ∷ s) = None
@@ -48,7 +48,7 @@ closing (b ∷ s) = None
 abbrev pub is_escaped_byte : ℕ → Bool
 is_escaped_byte v = nat_lt 0 v && nat_lt v 256
 
--- What a byte of a quoted string means. Printed bytes stand for themselves; a backslash stands before
+-- What a byte of a quoted string means. Printed bytes stand for themselves; a backslash comes before
 -- a quote, a backslash, or x and the two digits of any byte but 0; a quote ends the string.
 unfoldable pub step : Inside → ℕ → Step
 step Plain b =
@@ -65,7 +65,7 @@ step (LowDigit high) b =
     if is_low_hex b && is_escaped_byte (high * 16 + hex_value b) then Stands (high * 16 + hex_value b)
     else Broken
 
--- the bytes that a quoted string has behind its opening quote; its closing quote is the last byte
+-- the bytes that a quoted string has after its opening quote; its closing quote is the last byte
 unfoldable pub inside : Inside → List ℕ → Option (List ℕ)
 inside at [] = None
 inside at (b ∷ s) = elim (step at b) [
@@ -83,15 +83,15 @@ string_of field =
     else Err bad_string
 
 -- a byte in a quoted string: escaped where it would end the string, begin an escape, or not be printed
-unfoldable pub escaped : ℕ → List ℕ
-escaped b =
+unfoldable pub byte_escape : ℕ → List ℕ
+byte_escape b =
     if (b == quote) || (b == backslash) then backslash ∷ b ∷ []
     else if is_printed b then b ∷ []
     else backslash ∷ hex_letter ∷ slice_index lower_digits (b / 16) ∷ slice_index lower_digits (b % 16) ∷ []
 
 -- a string's one canonical spelling: bare wherever that is allowed
 unfoldable pub string_text : List ℕ → List ℕ
-string_text s = if is_bare s then s else quote ∷ (flat_map escaped s ++ quote ∷ [])
+string_text s = if is_bare s then s else quote ∷ (flat_map byte_escape s ++ quote ∷ [])
 
 -- bytes of which none is 0
 pub record NoZeros (s : List ℕ) : Type 0 where

@@ -49,7 +49,7 @@ package_of name =
 abbrev pub index_limit : ℕ
 index_limit = 2 ^ 32
 
--- the parts at this place of a field
+-- the parts around this index of a field
 abbrev pub target_at : ℕ → List ℕ → Result SymRef ℕ
 target_at i field = do
   pkg ← package_of (take i field)

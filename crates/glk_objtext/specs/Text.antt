@@ -1,11 +1,11 @@
 -- The canonical text of a description.
-use Rattle.std.specs.Prelude.{ℕ, List, ◌∷◌, [], ◌++◌, map}
+use Rattle.std.specs.Prelude.{◌≡◌, ℕ, List, ◌∷◌, [], ◌++◌, map}
 use Rattle.std.specs.List.{flat_map}
 use Rattle.glk_objdesc.specs.declared.desc.DefDesc.{DefDesc}
 use Rattle.glk_objdesc.specs.declared.desc.ObjDesc.{ObjDesc}
 use Rattle.glk_objdesc.specs.declared.desc.SymDesc.{SymDesc}
 use Rattle.glk_objtext.specs.Fields.{space}
-use Rattle.glk_objtext.specs.Lines.{newline}
+use Rattle.glk_base.specs.Lines.{newline}
 use Rattle.glk_objtext.specs.Numbers.{number_text, signed_text}
 use Rattle.glk_objtext.specs.Octets.{octets_text}
 use Rattle.glk_objtext.specs.Strings.{string_text}
@@ -30,7 +30,7 @@ hash_fields Hashed64def hash = octets_text hash ∷ []
 hash_fields Hasheddef hash = octets_text hash ∷ []
 hash_fields Nonpkgdef hash = []
 
--- the spellings of the fields of a line, behind its word
+-- the spellings of the fields of a line, after its word
 abbrev pub fields_of_line : Line → List (List ℕ)
 fields_of_line (Header flags fingerprint) = number_text flags ∷ octets_text fingerprint ∷ []
 fields_of_line (Import a) = string_text a.path ∷ octets_text a.fingerprint ∷ []
@@ -44,17 +44,24 @@ fields_of_line (Reference sym) = symbol_fields sym
 fields_of_line (Flags r) = target_text r.target ∷ number_text r.flag ∷ number_text r.flag2 ∷ []
 fields_of_line (Named r) = target_text r.target ∷ string_text r.name ∷ []
 
--- a field behind another one
-abbrev pub spaced : List ℕ → List ℕ
-spaced field = space ∷ field
+-- a field after a space
+abbrev pub after_space : List ℕ → List ℕ
+after_space field = space ∷ field
 
--- a line: its word and its fields, each behind one space, without the newline
+-- a line: its word and its fields, each after one space, without the newline
 abbrev pub line_text : Line → List ℕ
-line_text line = spelling (word_of_line line) ++ flat_map spaced (fields_of_line line)
+line_text line = spelling (word_of_line line) ++ flat_map after_space (fields_of_line line)
 
 -- a line with its newline
-unfoldable pub spelled : Line → List ℕ
-spelled line = line_text line ++ newline ∷ []
+unfoldable pub whole_line : Line → List ℕ
+whole_line line = line_text line ++ newline ∷ []
+
+-- a line, and fields, have been added to a text
+abbrev pub AppendsLine : List ℕ → Line → List ℕ → Type 0
+AppendsLine before line after = after ≡ before ++ whole_line line
+
+abbrev pub AppendsFields : List ℕ → List (List ℕ) → List ℕ → Type 0
+AppendsFields before fields after = after ≡ before ++ flat_map after_space fields
 
 -- the line of data; none for no data
 abbrev pub content_lines : List ℕ → List Line
@@ -82,7 +89,7 @@ lines_of d =
 
 -- the text of lines
 abbrev pub texts : List Line → List ℕ
-texts ls = flat_map spelled ls
+texts ls = flat_map whole_line ls
 
 -- the one canonical text of a description
 unfoldable pub text_of : ObjDesc → List ℕ

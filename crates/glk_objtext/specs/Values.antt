@@ -21,26 +21,26 @@ use Rattle.glk_objtext.specs.declared.words.Word.TheVariants.{Object, Autolib, P
 
 -- how many numbers there are of one, two and four bytes, and of a sign and the other bits of four
 -- and of eight
-abbrev pub byte_limit : ℕ
-byte_limit = 2 ^ 8
+abbrev pub u8_limit : ℕ
+u8_limit = 2 ^ 8
 
-abbrev pub half_limit : ℕ
-half_limit = 2 ^ 16
+abbrev pub u16_limit : ℕ
+u16_limit = 2 ^ 16
 
-abbrev pub word_limit : ℕ
-word_limit = 2 ^ 32
+abbrev pub u32_limit : ℕ
+u32_limit = 2 ^ 32
 
-abbrev pub signed_word_limit : ℕ
-signed_word_limit = 2 ^ 31
+abbrev pub i32_limit : ℕ
+i32_limit = 2 ^ 31
 
-abbrev pub signed_long_limit : ℕ
-signed_long_limit = 2 ^ 63
+abbrev pub i64_limit : ℕ
+i64_limit = 2 ^ 63
 
 -- In each kind numbers and references come first, then strings and bytes: where both are malformed,
 -- the lesser rule is that of numbers.
 unfoldable pub header_of : List (List ℕ) → Result Line ℕ
 header_of fs = do
-  flags ← number_of word_limit (field_at fs 1)
+  flags ← number_of u32_limit (field_at fs 1)
   fingerprint ← sized_of fingerprint_length (field_at fs 2)
   Ok (Header flags fingerprint)
 
@@ -52,35 +52,35 @@ import_of fs = do
 
 unfoldable pub symbol_of : List (List ℕ) → Result SymDesc ℕ
 symbol_of fs = do
-  abi ← number_of half_limit (field_at fs 2)
-  kind ← number_of byte_limit (field_at fs 3)
-  flag ← number_of byte_limit (field_at fs 4)
-  flag2 ← number_of byte_limit (field_at fs 5)
-  size ← number_of word_limit (field_at fs 6)
-  align ← number_of word_limit (field_at fs 7)
+  abi ← number_of u16_limit (field_at fs 2)
+  kind ← number_of u8_limit (field_at fs 3)
+  flag ← number_of u8_limit (field_at fs 4)
+  flag2 ← number_of u8_limit (field_at fs 5)
+  size ← number_of u32_limit (field_at fs 6)
+  align ← number_of u32_limit (field_at fs 7)
   name ← string_of (field_at fs 1)
   Ok (record { name = name; abi = abi; kind = kind; flag = flag; flag2 = flag2; size = size; align = align })
 
 unfoldable pub reloc_of : List (List ℕ) → Result RelocRec ℕ
 reloc_of fs = do
-  off ← signed_of signed_word_limit (field_at fs 1)
-  size ← number_of byte_limit (field_at fs 2)
-  kind ← number_of half_limit (field_at fs 3)
-  add ← signed_of signed_long_limit (field_at fs 4)
+  off ← signed_of i32_limit (field_at fs 1)
+  size ← number_of u8_limit (field_at fs 2)
+  kind ← number_of u16_limit (field_at fs 3)
+  add ← signed_of i64_limit (field_at fs 4)
   target ← target_of (field_at fs 5)
   Ok (record { off = off; size = size; kind = kind; add = add; target = target })
 
 unfoldable pub aux_of : List (List ℕ) → Result AuxRec ℕ
 aux_of fs = do
-  kind ← number_of byte_limit (field_at fs 1)
+  kind ← number_of u8_limit (field_at fs 1)
   target ← target_of (field_at fs 2)
   Ok (record { kind = kind; target = target })
 
 unfoldable pub ref_flags_of : List (List ℕ) → Result RefFlagsRec ℕ
 ref_flags_of fs = do
   target ← target_of (field_at fs 1)
-  flag ← number_of byte_limit (field_at fs 2)
-  flag2 ← number_of byte_limit (field_at fs 3)
+  flag ← number_of u8_limit (field_at fs 2)
+  flag2 ← number_of u8_limit (field_at fs 3)
   Ok (record { target = target; flag = flag; flag2 = flag2 })
 
 unfoldable pub ref_name_of : List (List ℕ) → Result RefNameDesc ℕ

@@ -52,8 +52,8 @@ arity Ref = 7
 arity RefFlags = 3
 arity RefName = 2
 
--- where the lines of a word stand among the others, from 1; those of the parts of a definition have
--- no place of their own
+-- the rank of the lines of a word among the others, from 1; those of the parts of a definition have
+-- none of their own
 unfoldable pub rank : Word → ℕ
 rank Object = 1
 rank Autolib = 2

@@ -1,7 +1,7 @@
 // A description that grows line by line.
 ghost use Rattle.std.specs.Prelude.{◌≡◌, OnOk, IfOk, List, [], ◌∷◌};
-ghost use Rattle.glk_objtext.specs.Building.{IsClosed, EndsParts, finished};
-ghost use Rattle.glk_objtext.specs.Description.{described};
+ghost use Rattle.glk_objtext.specs.Building.{IsClosed, EndsParts, Takes, description_with};
+ghost use Rattle.glk_objtext.specs.Description.{description_of_lines};
 ghost use Rattle.glk_objtext.specs.declared.line.Line.{Line as SpecLine};
 ghost use Rattle.glk_objtext.specs.declared.line.Line.TheVariants.{Content, Relocation, Auxiliary};
 
@@ -11,7 +11,7 @@ use glk_obj::{AuxRec, RefFlagsRec, RelocRec};
 use glk_objdesc::{AutolibDesc, DefDesc, ObjDesc, RefNameDesc, SymDesc};
 use std::alloc::Global;
 
-/// The definition that stands open, and its parts so far.
+/// The definition that is open, and its parts so far.
 #[derive(Drop)]
 pub(crate) struct OpenDef {
     block: DefBlock,
@@ -43,7 +43,7 @@ pub(crate) struct Builder {
 impl Builder {
     /// Before the first line.
     pub(crate) fn new(alloc: Global) -> Builder
-        ensures { (more : List SpecLine) → finished result more ≡ described more }
+        ensures { (more : List SpecLine) → description_with result more ≡ description_of_lines more }
     {
         Builder {
             flags: 0,
@@ -97,7 +97,7 @@ impl Builder {
 
     /// Takes what the next line says.
     pub(crate) fn add(&mut self, alloc: Global, line: Line) -> Result<(), OutOfMemory>
-        ensures { OnOk result ((more : List SpecLine) → finished self.new more ≡ finished self.old (line ∷ more)) }
+        ensures { OnOk result (Takes self.old line self.new) }
     {
         match line {
             Line::Content(bytes) => {
@@ -115,7 +115,7 @@ impl Builder {
 
     // The data of the open definition.
     fn fill(&mut self, bytes: Text)
-        ensures { (more : List SpecLine) → finished self.new more ≡ finished self.old (Content bytes ∷ more) }
+        ensures { Takes self.old (Content bytes) self.new }
     {
         if let Some(open) = &mut self.open {
             open.content = bytes;
@@ -123,7 +123,7 @@ impl Builder {
     }
 
     fn push_reloc(&mut self, reloc: RelocRec) -> Result<(), OutOfMemory>
-        ensures { OnOk result ((more : List SpecLine) → finished self.new more ≡ finished self.old (Relocation reloc ∷ more)) }
+        ensures { OnOk result (Takes self.old (Relocation reloc) self.new) }
     {
         if let Some(open) = &mut self.open {
             open.relocs.push(reloc)?;
@@ -132,7 +132,7 @@ impl Builder {
     }
 
     fn push_aux(&mut self, aux: AuxRec) -> Result<(), OutOfMemory>
-        ensures { OnOk result ((more : List SpecLine) → finished self.new more ≡ finished self.old (Auxiliary aux ∷ more)) }
+        ensures { OnOk result (Takes self.old (Auxiliary aux) self.new) }
     {
         if let Some(open) = &mut self.open {
             open.auxes.push(aux)?;
@@ -140,11 +140,11 @@ impl Builder {
         Ok(())
     }
 
-    // Takes a line that is no part of a definition, while none stands open.
+    // Takes a line that is no part of a definition, while none is open.
     fn push(&mut self, alloc: Global, line: Line) -> Result<(), OutOfMemory>
         requires closed { self.old.open ≡ None }
         requires whole { EndsParts (line ∷ []) }
-        ensures { OnOk result ((more : List SpecLine) → finished self.new more ≡ finished self.old (line ∷ more)) }
+        ensures { OnOk result (Takes self.old line self.new) }
     {
         match line {
             Line::Header { flags, fingerprint } => {
@@ -193,7 +193,7 @@ impl Builder {
 
     /// The description that the lines make.
     pub(crate) fn finish(mut self) -> Result<ObjDesc, OutOfMemory>
-        ensures { IfOk result (λ d. d ≡ finished self []) }
+        ensures { IfOk result (λ d. d ≡ description_with self []) }
     {
         self.close()?;
         let Builder {

@@ -1,9 +1,9 @@
 // The fields of a line.
 ghost use Rattle.std.specs.Prelude.{◌≡◌, cond, length};
-ghost use Rattle.glk_objtext.specs.Fields.{next_mode, is_between as between, fields, field_at, opened};
+ghost use Rattle.glk_objtext.specs.Fields.{next_mode, is_between as between, fields, field_at, open_count};
 
-/// Where reading stands in a line: between fields, or in a field that began with no quote or whose
-/// quote is closed, or in a quoted one, or there behind a backslash.
+/// Where reading is in a line: between fields, or in a field that began with no quote or whose
+/// quote is closed, or in a quoted one, or there after a backslash.
 #[derive(Clone, Copy, Debug)]
 pub(crate) enum Mode {
     Between,
@@ -47,7 +47,7 @@ impl Mode {
 
     /// How many fields a byte ends that leads to the next mode: one or none.
     fn ended(self, next: Mode) -> usize
-        ensures { result ≡ cond (between next) (opened self) 0 }
+        ensures { result ≡ cond (between next) (open_count self) 0 }
     {
         if next.is_between() && !self.is_between() {
             1

@@ -7,7 +7,6 @@ mod bytes;
 mod fields;
 mod laws;
 mod line;
-mod lines;
 mod numbers;
 mod octets;
 mod read;

@@ -2,7 +2,7 @@
 ghost use Rattle.std.specs.Prelude.{◌≡◌, ◌<◌, ◌≤◌, ◌^◌, ◌-◌, ◌+◌, ◌++◌, ◌↔◌, ◌==◌, IfOk, OnOk, IsTrue, MatchOption, min, length, slice_index};
 ghost use Rattle.std.specs.Str.Parse.{AllDigits, digits_value};
 ghost use Rattle.glk_objtext.specs.Answers.{Gives};
-ghost use Rattle.glk_objtext.specs.Numbers.{number_of, number_text, signed_of, signed_text, IsWithin};
+ghost use Rattle.glk_objtext.specs.Numbers.{number_of, number_text, signed_of, signed_text, IsWithin, IsShort, IsCappedValue};
 
 use crate::rules::BAD_NUMBER;
 use glk_base::{Fault, OutOfMemory};
@@ -10,7 +10,7 @@ use itoa::Buffer;
 
 // The number that digits write, or 2^64 - 1 where it is greater; none where a byte is no digit.
 fn capped_value(digits: &[u8]) -> Option<u64>
-    ensures { MatchOption result (AllDigits 10 digits.now → ⊥) (λ n. AllDigits 10 digits.now × (n ≡ min (digits_value 10 digits.now) (2 ^ 64 - 1))) }
+    ensures { MatchOption result (AllDigits 10 digits.now → ⊥) (IsCappedValue digits.now) }
 {
     let mut value: u64 = 0;
     for b in digits {
@@ -24,7 +24,7 @@ fn capped_value(digits: &[u8]) -> Option<u64>
 
 // Whether there is a digit at least, and no leading zero.
 fn is_short(digits: &[u8]) -> bool
-    ensures { IsTrue result ↔ ((0 < length digits.now) × (slice_index digits.now 0 ≡ 48 → length digits.now ≡ 1)) }
+    ensures { IsTrue result ↔ IsShort digits.now }
 {
     match digits {
         [] => false,

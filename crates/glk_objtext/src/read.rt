@@ -1,26 +1,26 @@
 // Reading a text.
-ghost use Rattle.std.specs.Prelude.{◌≡◌, ℕ, List, [], ◌∷◌, OnOk, IfErr};
+ghost use Rattle.std.specs.Prelude.{◌≡◌, ℕ, List, [], OnOk, IfErr};
 ghost use Rattle.glk_objtext.specs.Answers.{Gives};
 ghost use Rattle.glk_objtext.specs.Grammar.{line_at};
-ghost use Rattle.glk_objtext.specs.Reading.{next_number, read_lines, read_text};
-ghost use Rattle.glk_objtext.specs.Building.{completed, IsRefusedLine};
+ghost use Rattle.glk_objtext.specs.Reading.{read_lines, read_text};
+ghost use Rattle.glk_objtext.specs.Building.{answer_with, ReadsOn, IsRefusedLine};
 
 use crate::builder::Builder;
 use crate::fields::{count_fields, nth_field};
 use crate::line::Line;
-use crate::lines::{cut_line, is_passed, trim};
 use crate::rules::{FIELD_COUNT, HASH_LENGTH, MISPLACED_OBJECT, MISPLACED_PART, OUT_OF_ORDER};
 use crate::stage::Stage;
 use crate::values::read_value;
 use crate::words::Word;
 use glk_base::Fault;
+use glk_base::lines::{cut_line, is_skipped, trim};
 use glk_objdesc::ObjDesc;
 use std::alloc::Global;
 
 /// The first bad line of a text, and the least rule that it breaks.
 #[derive(Clone, Copy, Debug, PartialEq, Eq)]
 pub struct TextBad {
-    /// The number of the line, from 1; 2^32 - 1 for all lines further on.
+    /// The number of the line, from 1; a number past 2^32 - 1 is given as 2^32 - 1.
     pub line: u32,
     /// The number of the rule: 4 for X4.
     pub rule: u8,
@@ -61,11 +61,12 @@ struct Reader {
 impl Reader {
     // Takes the next line, or names the least rule that it breaks.
     fn take(&mut self, alloc: Global, raw: &[u8]) -> Result<(), Fault<u8>>
-        ensures ok { OnOk result ((n : ℕ) (more : List (List ℕ)) → completed self.new.builder (read_lines (next_number n) self.new.stage more) ≡ completed self.old.builder (read_lines n self.old.stage (raw.now ∷ more))) }
+        ensures ok { OnOk result
+            (ReadsOn self.old.builder self.old.stage raw.now self.new.builder self.new.stage) }
         ensures bad { IfErr result (IsRefusedLine self.old.stage raw.now) }
     {
         let line = trim(raw);
-        if is_passed(line) {
+        if is_skipped(line) {
             return Ok(());
         }
         let value = read_line(alloc, &self.stage, line)?;
@@ -77,7 +78,7 @@ impl Reader {
 
     // The description, once there are no more lines.
     fn finish(self) -> Result<ObjDesc, Fault<TextBad>>
-        ensures { (n : ℕ) → Gives (completed self.builder (read_lines n self.stage [])) result }
+        ensures { (n : ℕ) → Gives (answer_with self.builder (read_lines n self.stage [])) result }
     {
         if !self.stage.has_begun() {
             return Err(Fault::Bad(TextBad {
@@ -92,7 +93,7 @@ impl Reader {
 /// The description that a text spells, or its first bad line.
 ///
 /// Lines end with a newline; the last may lack it. A line loses spaces, tabs and carriage returns
-/// at both ends. Empty lines and lines that begin with `#` are passed over.
+/// at both ends. Empty lines and lines that begin with `#` are skipped.
 ///
 /// # Errors
 /// `Bad` for the first bad line, with the least rule that it breaks; `OutOfMemory`.

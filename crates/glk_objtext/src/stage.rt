@@ -4,8 +4,9 @@ ghost use Rattle.glk_objtext.specs.Grammar.{begins_well as begins, is_ordered as
 
 use crate::line::{DefBlock, Line};
 use crate::words::Word;
+use glk_obj::{LONGEST_HASH, SHORTEST_HASH};
 
-/// What has come of the definition that stands open, if one does.
+/// What has come of the definition that is open, if one is.
 #[derive(Clone, Copy, Debug)]
 pub(crate) enum Part {
     Outside,
@@ -24,11 +25,6 @@ pub(crate) struct Stage {
     /// The length of the long hashes, where one has come.
     width: Option<usize>,
 }
-
-/// The lengths that long hashes may have.
-const SHORTEST_HASH: usize = 8;
-
-const LONGEST_HASH: usize = 64;
 
 impl Stage {
     /// Before the first line.
@@ -107,7 +103,7 @@ impl Stage {
         }
     }
 
-    /// What comes behind a line.
+    /// What comes after a line.
     #[tactic(auto, unfolding(crate::specs::Grammar::after))]
     pub(crate) fn after(&self, line: &Line) -> Stage
         ensures { result ≡ stage_after self.now line.now }

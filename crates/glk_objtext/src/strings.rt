@@ -2,14 +2,14 @@
 ghost use Rattle.std.specs.Prelude.{◌≡◌, ◌<◌, ◌==◌, ◌++◌, OnOk, IsTrue, length, slice_index};
 ghost use Rattle.std.specs.List.{list_all, flat_map};
 ghost use Rattle.glk_objtext.specs.Answers.{Gives, or_rule, bad_string};
-ghost use Rattle.glk_objtext.specs.Strings.{is_bare as bare, is_bare_byte as bare_byte, is_printed as printed, is_low_hex, hex_value as value_of_digit, inside, step, string_of, escaped, string_text};
+ghost use Rattle.glk_objtext.specs.Strings.{is_bare as bare, is_bare_byte as bare_byte, is_printed as printed, is_low_hex, hex_value as value_of_digit, inside, step, string_of, byte_escape, string_text};
 ghost use Rattle.glk_objtext.specs.declared.strings.Inside.TheVariants.{LowDigit, Plain};
 
 use crate::rules::BAD_STRING;
 use glk_base::{Fault, OutOfMemory, Text};
 use std::alloc::Global;
 
-/// Where reading stands in a quoted string: at a byte, behind a backslash, at the first digit of
+/// Where reading is in a quoted string: at a byte, after a backslash, at the first digit of
 /// an escape, or at its second digit, with the first one's value.
 #[derive(Clone, Copy, Debug)]
 enum Inside {
@@ -134,7 +134,7 @@ fn low_digit(high: u8, byte: u8) -> Step
     }
 }
 
-// The string whose spelling stands behind an opening quote.
+// The string whose spelling follows an opening quote.
 fn read_quoted(alloc: Global, bytes: &[u8]) -> Result<Text, Fault<u8>>
     ensures { Gives (or_rule bad_string (inside Plain bytes.now)) result }
 {
@@ -187,9 +187,9 @@ fn first_is_quote(field: &[u8]) -> bool
 const DIGITS: &[u8; 16] = b"0123456789abcdef";
 
 // Writes a byte of a quoted string.
-#[tactic(auto, unfolding(crate::specs::Strings::escaped))]
+#[tactic(auto, unfolding(crate::specs::Strings::byte_escape))]
 fn push_escaped(out: &mut Vec<u8>, byte: u8) -> Result<(), OutOfMemory>
-    ensures { OnOk result (out.new.items ≡ out.old.items ++ escaped byte) }
+    ensures { OnOk result (out.new.items ≡ out.old.items ++ byte_escape byte) }
 {
     if byte == b'"' || byte == b'\\' {
         out.extend_from_slice(&[b'\\', byte])?;
@@ -205,7 +205,7 @@ fn push_escaped(out: &mut Vec<u8>, byte: u8) -> Result<(), OutOfMemory>
 
 // Writes the bytes of a quoted string.
 fn push_all_escaped(out: &mut Vec<u8>, bytes: &[u8]) -> Result<(), OutOfMemory>
-    ensures { OnOk result (out.new.items ≡ out.old.items ++ flat_map escaped bytes.now) }
+    ensures { OnOk result (out.new.items ≡ out.old.items ++ flat_map byte_escape bytes.now) }
 {
     for b in bytes {
         push_escaped(out, *b)?;

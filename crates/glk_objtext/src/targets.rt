@@ -3,9 +3,9 @@ ghost use Rattle.std.specs.Prelude.{◌≡◌, ◌++◌, ◌<◌, ◌^◌, OnOk,
 ghost use Rattle.glk_objtext.specs.Answers.{Gives};
 ghost use Rattle.glk_objtext.specs.Targets.{entry_of, package_of, target_of, package_text, target_text};
 
-use crate::lines::first_of;
 use crate::numbers::{push_number, read_number};
 use crate::rules::BAD_NUMBER;
+use glk_base::lines::first_of;
 use glk_base::{Fault, OutOfMemory};
 use glk_obj::{
     BUILTIN_PACKAGE, HASHED_PACKAGE, HASHED64_PACKAGE, NIL_PACKAGE, NONE_PACKAGE, SELF_PACKAGE,

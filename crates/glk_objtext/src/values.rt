@@ -3,7 +3,7 @@ ghost use Rattle.std.specs.Prelude.{◌≡◌, []};
 ghost use Rattle.glk_objtext.specs.Answers.{Gives};
 ghost use Rattle.glk_objtext.specs.Fields.{fields, field_at};
 ghost use Rattle.glk_objtext.specs.Numbers.{number_of, signed_of};
-ghost use Rattle.glk_objtext.specs.Values.{byte_limit, half_limit, word_limit, signed_word_limit, signed_long_limit, header_of, import_of, symbol_of, reloc_of, aux_of, ref_flags_of, ref_name_of, short_hashed_of, long_hashed_of, as_line, value_of};
+ghost use Rattle.glk_objtext.specs.Values.{u8_limit, u16_limit, u32_limit, i32_limit, i64_limit, header_of, import_of, symbol_of, reloc_of, aux_of, ref_flags_of, ref_name_of, short_hashed_of, long_hashed_of, as_line, value_of};
 ghost use Rattle.glk_objtext.specs.declared.line.Line.TheVariants.{Symbol};
 
 use crate::fields::nth_field;
@@ -19,32 +19,32 @@ use glk_objdesc::{AutolibDesc, RefNameDesc, SymDesc};
 use std::alloc::Global;
 
 // The number of one byte in the field of this number.
-fn byte_at(line: &[u8], n: usize) -> Result<u8, Fault<u8>>
-    ensures { Gives (number_of byte_limit (field_at (fields line.now) n)) result }
+fn u8_at(line: &[u8], n: usize) -> Result<u8, Fault<u8>>
+    ensures { Gives (number_of u8_limit (field_at (fields line.now) n)) result }
 {
     let number = read_number(nth_field(line, n), 1 << 8)?;
     Ok(number as u8)
 }
 
 // The number of two bytes in the field of this number.
-fn half_at(line: &[u8], n: usize) -> Result<u16, Fault<u8>>
-    ensures { Gives (number_of half_limit (field_at (fields line.now) n)) result }
+fn u16_at(line: &[u8], n: usize) -> Result<u16, Fault<u8>>
+    ensures { Gives (number_of u16_limit (field_at (fields line.now) n)) result }
 {
     let number = read_number(nth_field(line, n), 1 << 16)?;
     Ok(number as u16)
 }
 
 // The number of four bytes in the field of this number.
-fn word_at(line: &[u8], n: usize) -> Result<u32, Fault<u8>>
-    ensures { Gives (number_of word_limit (field_at (fields line.now) n)) result }
+fn u32_at(line: &[u8], n: usize) -> Result<u32, Fault<u8>>
+    ensures { Gives (number_of u32_limit (field_at (fields line.now) n)) result }
 {
     let number = read_number(nth_field(line, n), 1 << 32)?;
     Ok(number as u32)
 }
 
 // The number of four bytes with a sign in the field of this number.
-fn signed_word_at(line: &[u8], n: usize) -> Result<i32, Fault<u8>>
-    ensures { Gives (signed_of signed_word_limit (field_at (fields line.now) n)) result }
+fn i32_at(line: &[u8], n: usize) -> Result<i32, Fault<u8>>
+    ensures { Gives (signed_of i32_limit (field_at (fields line.now) n)) result }
 {
     let number = read_signed(nth_field(line, n), 1 << 31)?;
     Ok(number as i32)
@@ -54,7 +54,7 @@ fn signed_word_at(line: &[u8], n: usize) -> Result<i32, Fault<u8>>
 fn read_header(line: &[u8]) -> Result<Line, Fault<u8>>
     ensures { Gives (header_of (fields line.now)) result }
 {
-    let flags = word_at(line, 1)?;
+    let flags = u32_at(line, 1)?;
     let fingerprint = read_fingerprint(nth_field(line, 2))?;
     Ok(Line::Header { flags, fingerprint })
 }
@@ -72,12 +72,12 @@ fn read_import(alloc: Global, line: &[u8]) -> Result<AutolibDesc, Fault<u8>>
 fn read_symbol(alloc: Global, line: &[u8]) -> Result<SymDesc, Fault<u8>>
     ensures { Gives (symbol_of (fields line.now)) result }
 {
-    let abi = half_at(line, 2)?;
-    let kind = byte_at(line, 3)?;
-    let flag = byte_at(line, 4)?;
-    let flag2 = byte_at(line, 5)?;
-    let size = word_at(line, 6)?;
-    let align = word_at(line, 7)?;
+    let abi = u16_at(line, 2)?;
+    let kind = u8_at(line, 3)?;
+    let flag = u8_at(line, 4)?;
+    let flag2 = u8_at(line, 5)?;
+    let size = u32_at(line, 6)?;
+    let align = u32_at(line, 7)?;
     let name = read_string(alloc, nth_field(line, 1))?;
     Ok(SymDesc {
         name,
@@ -94,9 +94,9 @@ fn read_symbol(alloc: Global, line: &[u8]) -> Result<SymDesc, Fault<u8>>
 fn read_reloc(line: &[u8]) -> Result<RelocRec, Fault<u8>>
     ensures { Gives (reloc_of (fields line.now)) result }
 {
-    let off = signed_word_at(line, 1)?;
-    let size = byte_at(line, 2)?;
-    let kind = half_at(line, 3)?;
+    let off = i32_at(line, 1)?;
+    let size = u8_at(line, 2)?;
+    let kind = u16_at(line, 3)?;
     let add = read_signed(nth_field(line, 4), 1 << 63)?;
     let target = read_target(nth_field(line, 5))?;
     Ok(RelocRec {
@@ -112,7 +112,7 @@ fn read_reloc(line: &[u8]) -> Result<RelocRec, Fault<u8>>
 fn read_aux(line: &[u8]) -> Result<AuxRec, Fault<u8>>
     ensures { Gives (aux_of (fields line.now)) result }
 {
-    let kind = byte_at(line, 1)?;
+    let kind = u8_at(line, 1)?;
     let target = read_target(nth_field(line, 2))?;
     Ok(AuxRec { kind, target })
 }
@@ -122,8 +122,8 @@ fn read_ref_flags(line: &[u8]) -> Result<RefFlagsRec, Fault<u8>>
     ensures { Gives (ref_flags_of (fields line.now)) result }
 {
     let target = read_target(nth_field(line, 1))?;
-    let flag = byte_at(line, 2)?;
-    let flag2 = byte_at(line, 3)?;
+    let flag = u8_at(line, 2)?;
+    let flag2 = u8_at(line, 3)?;
     Ok(RefFlagsRec {
         target,
         flag,

@@ -94,8 +94,8 @@ impl Word {
         }
     }
 
-    /// Where the lines of the word stand among the others; 0 for the parts of a definition, which
-    /// have no place of their own.
+    /// The rank of the lines of the word among the others; 0 for the parts of a definition, which
+    /// have none of their own.
     #[tactic(auto, unfolding(crate::specs::Words::rank))]
     pub(crate) fn rank(self) -> u8
         ensures { result ≡ rank_of self }

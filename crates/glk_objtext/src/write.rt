@@ -5,8 +5,8 @@ ghost use Rattle.glk_objtext.specs.Numbers.{number_text, signed_text};
 ghost use Rattle.glk_objtext.specs.Octets.{octets_text};
 ghost use Rattle.glk_objtext.specs.Strings.{string_text};
 ghost use Rattle.glk_objtext.specs.Targets.{target_text};
-ghost use Rattle.glk_objtext.specs.Text.{symbol_fields, hash_fields, spaced, spelled, content_lines, def_lines, texts, text_of};
-ghost use Rattle.glk_objtext.specs.Lines.{newline};
+ghost use Rattle.glk_objtext.specs.Text.{symbol_fields, hash_fields, after_space, whole_line, AppendsLine, AppendsFields, content_lines, def_lines, texts, text_of};
+ghost use Rattle.glk_base.specs.Lines.{newline};
 ghost use Rattle.glk_objtext.specs.Words.{spelling as spelling_of};
 ghost use Rattle.glk_objtext.specs.declared.line.Line.TheVariants.{Header, Import, Package, Source, Symbol, Content, Relocation, Auxiliary, Reference, Flags, Named};
 
@@ -21,45 +21,45 @@ use glk_obj::{AuxRec, RefFlagsRec, RelocRec, SymRef};
 use glk_objdesc::{AutolibDesc, DefDesc, ObjDesc, RefNameDesc, SymDesc};
 use std::alloc::Global;
 
-// The fields, each behind a space.
+// The fields, each after a space.
 
 fn number_field(out: &mut Vec<u8>, number: u64) -> Result<(), OutOfMemory>
-    ensures { OnOk result (out.new.items ≡ out.old.items ++ spaced (number_text number)) }
+    ensures { OnOk result (out.new.items ≡ out.old.items ++ after_space (number_text number)) }
 {
     out.push(b' ')?;
     push_number(out, number)
 }
 
 fn signed_field(out: &mut Vec<u8>, number: i64) -> Result<(), OutOfMemory>
-    ensures { OnOk result (out.new.items ≡ out.old.items ++ spaced (signed_text number)) }
+    ensures { OnOk result (out.new.items ≡ out.old.items ++ after_space (signed_text number)) }
 {
     out.push(b' ')?;
     push_signed(out, number)
 }
 
 fn string_field(out: &mut Vec<u8>, string: &Text) -> Result<(), OutOfMemory>
-    ensures { OnOk result (out.new.items ≡ out.old.items ++ spaced (string_text string.now)) }
+    ensures { OnOk result (out.new.items ≡ out.old.items ++ after_space (string_text string.now)) }
 {
     out.push(b' ')?;
     push_string(out, string.as_bytes())
 }
 
 fn octets_field(alloc: Global, out: &mut Vec<u8>, bytes: &[u8]) -> Result<(), OutOfMemory>
-    ensures { OnOk result (out.new.items ≡ out.old.items ++ spaced (octets_text bytes.now)) }
+    ensures { OnOk result (out.new.items ≡ out.old.items ++ after_space (octets_text bytes.now)) }
 {
     out.push(b' ')?;
     push_octets(alloc, out, bytes)
 }
 
 fn target_field(out: &mut Vec<u8>, target: SymRef) -> Result<(), OutOfMemory>
-    ensures { OnOk result (out.new.items ≡ out.old.items ++ spaced (target_text target)) }
+    ensures { OnOk result (out.new.items ≡ out.old.items ++ after_space (target_text target)) }
 {
     out.push(b' ')?;
     push_target(out, target)
 }
 
 fn symbol_field_list(out: &mut Vec<u8>, sym: &SymDesc) -> Result<(), OutOfMemory>
-    ensures { OnOk result (out.new.items ≡ out.old.items ++ flat_map spaced (symbol_fields sym.now)) }
+    ensures { OnOk result (AppendsFields out.old.items (symbol_fields sym.now) out.new.items) }
 {
     string_field(out, &sym.name)?;
     number_field(out, sym.abi as u64)?;
@@ -87,9 +87,9 @@ fn end_line(out: &mut Vec<u8>) -> Result<(), OutOfMemory>
     Ok(())
 }
 
-#[tactic(auto, unfolding(crate::specs::Text::spelled))]
+#[tactic(auto, unfolding(crate::specs::Text::whole_line))]
 fn push_header(alloc: Global, out: &mut Vec<u8>, d: &ObjDesc) -> Result<(), OutOfMemory>
-    ensures { OnOk result (out.new.items ≡ out.old.items ++ spelled (Header d.now.flags d.now.fingerprint)) }
+    ensures { OnOk result (AppendsLine out.old.items (Header d.now.flags d.now.fingerprint) out.new.items) }
 {
     push_word(out, Word::Object)?;
     number_field(out, d.flags as u64)?;
@@ -97,9 +97,9 @@ fn push_header(alloc: Global, out: &mut Vec<u8>, d: &ObjDesc) -> Result<(), OutO
     end_line(out)
 }
 
-#[tactic(auto, unfolding(crate::specs::Text::spelled))]
+#[tactic(auto, unfolding(crate::specs::Text::whole_line))]
 fn push_import(alloc: Global, out: &mut Vec<u8>, a: &AutolibDesc) -> Result<(), OutOfMemory>
-    ensures { OnOk result (out.new.items ≡ out.old.items ++ spelled (Import a.now)) }
+    ensures { OnOk result (AppendsLine out.old.items (Import a.now) out.new.items) }
 {
     push_word(out, Word::Autolib)?;
     string_field(out, &a.path)?;
@@ -107,32 +107,32 @@ fn push_import(alloc: Global, out: &mut Vec<u8>, a: &AutolibDesc) -> Result<(), 
     end_line(out)
 }
 
-#[tactic(auto, unfolding(crate::specs::Text::spelled))]
+#[tactic(auto, unfolding(crate::specs::Text::whole_line))]
 fn push_package(out: &mut Vec<u8>, path: &Text) -> Result<(), OutOfMemory>
-    ensures { OnOk result (out.new.items ≡ out.old.items ++ spelled (Package path.now)) }
+    ensures { OnOk result (AppendsLine out.old.items (Package path.now) out.new.items) }
 {
     push_word(out, Word::Pkg)?;
     string_field(out, path)?;
     end_line(out)
 }
 
-#[tactic(auto, unfolding(crate::specs::Text::spelled))]
+#[tactic(auto, unfolding(crate::specs::Text::whole_line))]
 fn push_source(out: &mut Vec<u8>, file: &Text) -> Result<(), OutOfMemory>
-    ensures { OnOk result (out.new.items ≡ out.old.items ++ spelled (Source file.now)) }
+    ensures { OnOk result (AppendsLine out.old.items (Source file.now) out.new.items) }
 {
     push_word(out, Word::File)?;
     string_field(out, file)?;
     end_line(out)
 }
 
-#[tactic(auto, unfolding(crate::specs::Text::spelled))]
+#[tactic(auto, unfolding(crate::specs::Text::whole_line))]
 fn push_symbol(
     alloc: Global,
     out: &mut Vec<u8>,
     block: DefBlock,
     def: &DefDesc,
 ) -> Result<(), OutOfMemory>
-    ensures { OnOk result (out.new.items ≡ out.old.items ++ spelled (Symbol block def.now.sym def.now.hash)) }
+    ensures { OnOk result (AppendsLine out.old.items (Symbol block def.now.sym def.now.hash) out.new.items) }
 {
     push_word(out, block.word())?;
     symbol_field_list(out, &def.sym)?;
@@ -147,7 +147,7 @@ fn hash_field(
     block: DefBlock,
     hash: &Text,
 ) -> Result<(), OutOfMemory>
-    ensures { OnOk result (out.new.items ≡ out.old.items ++ flat_map spaced (hash_fields block hash.now)) }
+    ensures { OnOk result (AppendsFields out.old.items (hash_fields block hash.now) out.new.items) }
 {
     match block {
         DefBlock::Symdef | DefBlock::Nonpkgdef => Ok(()),
@@ -155,7 +155,7 @@ fn hash_field(
     }
 }
 
-#[tactic(auto, unfolding(crate::specs::Text::spelled))]
+#[tactic(auto, unfolding(crate::specs::Text::whole_line))]
 fn push_content(alloc: Global, out: &mut Vec<u8>, content: &Text) -> Result<(), OutOfMemory>
     ensures { OnOk result (out.new.items ≡ out.old.items ++ texts (content_lines content.now)) }
 {
@@ -170,9 +170,9 @@ fn push_content(alloc: Global, out: &mut Vec<u8>, content: &Text) -> Result<(), 
     }
 }
 
-#[tactic(auto, unfolding(crate::specs::Text::spelled))]
+#[tactic(auto, unfolding(crate::specs::Text::whole_line))]
 fn push_reloc(out: &mut Vec<u8>, r: RelocRec) -> Result<(), OutOfMemory>
-    ensures { OnOk result (out.new.items ≡ out.old.items ++ spelled (Relocation r)) }
+    ensures { OnOk result (AppendsLine out.old.items (Relocation r) out.new.items) }
 {
     push_word(out, Word::Reloc)?;
     signed_field(out, r.off as i64)?;
@@ -184,9 +184,9 @@ fn push_reloc(out: &mut Vec<u8>, r: RelocRec) -> Result<(), OutOfMemory>
     Ok(())
 }
 
-#[tactic(auto, unfolding(crate::specs::Text::spelled))]
+#[tactic(auto, unfolding(crate::specs::Text::whole_line))]
 fn push_aux(out: &mut Vec<u8>, a: AuxRec) -> Result<(), OutOfMemory>
-    ensures { OnOk result (out.new.items ≡ out.old.items ++ spelled (Auxiliary a)) }
+    ensures { OnOk result (AppendsLine out.old.items (Auxiliary a) out.new.items) }
 {
     push_word(out, Word::Aux)?;
     number_field(out, a.kind as u64)?;
@@ -194,18 +194,18 @@ fn push_aux(out: &mut Vec<u8>, a: AuxRec) -> Result<(), OutOfMemory>
     end_line(out)
 }
 
-#[tactic(auto, unfolding(crate::specs::Text::spelled))]
+#[tactic(auto, unfolding(crate::specs::Text::whole_line))]
 fn push_reference(out: &mut Vec<u8>, sym: &SymDesc) -> Result<(), OutOfMemory>
-    ensures { OnOk result (out.new.items ≡ out.old.items ++ spelled (Reference sym.now)) }
+    ensures { OnOk result (AppendsLine out.old.items (Reference sym.now) out.new.items) }
 {
     push_word(out, Word::Ref)?;
     symbol_field_list(out, sym)?;
     end_line(out)
 }
 
-#[tactic(auto, unfolding(crate::specs::Text::spelled))]
+#[tactic(auto, unfolding(crate::specs::Text::whole_line))]
 fn push_flags(out: &mut Vec<u8>, r: RefFlagsRec) -> Result<(), OutOfMemory>
-    ensures { OnOk result (out.new.items ≡ out.old.items ++ spelled (Flags r)) }
+    ensures { OnOk result (AppendsLine out.old.items (Flags r) out.new.items) }
 {
     push_word(out, Word::RefFlags)?;
     target_field(out, r.target)?;
@@ -214,9 +214,9 @@ fn push_flags(out: &mut Vec<u8>, r: RefFlagsRec) -> Result<(), OutOfMemory>
     end_line(out)
 }
 
-#[tactic(auto, unfolding(crate::specs::Text::spelled))]
+#[tactic(auto, unfolding(crate::specs::Text::whole_line))]
 fn push_name(out: &mut Vec<u8>, r: &RefNameDesc) -> Result<(), OutOfMemory>
-    ensures { OnOk result (out.new.items ≡ out.old.items ++ spelled (Named r.now)) }
+    ensures { OnOk result (AppendsLine out.old.items (Named r.now) out.new.items) }
 {
     push_word(out, Word::RefName)?;
     target_field(out, r.target)?;
@@ -329,7 +329,7 @@ fn push_defs(
 }
 
 /// The canonical text of a description: one space between fields, strings bare wherever that is
-/// allowed, escapes only where they are needed, no line for empty data, a newline behind each line.
+/// allowed, escapes only where they are needed, no line for empty data, a newline after each line.
 ///
 /// # Errors
 /// `OutOfMemory`.

@@ -1,6 +1,6 @@
-pub mod Settled
-pub mod Places
-pub mod Passed
+pub mod RuleAfter
+pub mod BodiesAt
+pub mod WalkSteps
 pub mod Once
 pub mod Room
-pub mod AnyLine
+pub mod NoMismatch

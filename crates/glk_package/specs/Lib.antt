@@ -1,5 +1,5 @@
-pub mod Packed
-pub mod Lines
-pub mod Held
+pub mod ObjectEntry
+pub mod HeaderRule
+pub mod Members
 pub mod Package
-pub mod AnyLine
+pub mod NoMismatch

@@ -1,6 +1,6 @@
 // What holds of all files: laws of the definitions, which cost nothing when they run.
 ghost use Rattle.glk_package.specs.Package.{IsOnePackage};
-ghost use Rattle.glk_package.specs.AnyLine.{HasNoOtherLine};
+ghost use Rattle.glk_package.specs.NoMismatch.{HasNoMismatch};
 
 /// By each rule for lines a file has one list of objects, or one first fault, and not both.
 pub fn one_package()
@@ -8,6 +8,6 @@ pub fn one_package()
 {}
 
 /// Where any line will do, no file has the fault of another line.
-pub fn any_line()
-    ensures { HasNoOtherLine }
+pub fn no_mismatch()
+    ensures { HasNoMismatch }
 {}

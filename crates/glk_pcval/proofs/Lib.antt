@@ -1,6 +1,6 @@
-pub mod VarintLemmas
-pub mod TableLemmas
-pub mod FaultLemmas
-pub mod EncodeLemmas
-pub mod FrontLemmas
-pub mod SoundLemmas
+mod TableLemmas
+mod FaultLemmas
+mod PrefixLemmas
+mod SoundLemmas
+mod EncodeLemmas
+mod LawLemmas

@@ -3,76 +3,77 @@ use Rattle.std.proofs.Common.{◌≡◌, ◌≢◌, ℕ, zero, suc, ◌+◌, ◌
 use Rattle.std.specs.Prelude.{◌==◌, nat_lt, ◌↔◌}
 use Rattle.std.proofs.lemmas.Bool.Decides.{nat_tests}
 use Rattle.std.proofs.lemmas.List.{length-drop}
-use Rattle.glk_pcval.specs.declared.varint.Varint.{Varint}
+use Rattle.glk_base.specs.declared.varint.Varint.{Varint}
+use Rattle.glk_base.specs.Varint.{varint_of}
+use Rattle.glk_base.proofs.VarintLemmas.{bool_cases}
 use Rattle.glk_pcval.specs.declared.step.Next.{Next}
 use Rattle.glk_pcval.specs.declared.step.Next.TheVariants as next
 use Rattle.glk_pcval.specs.declared.step.State.{State}
-use Rattle.glk_pcval.specs.Varint.{varint_of, most_bytes, fits_u32}
-use Rattle.glk_pcval.specs.Step.{next_of, with_end, with_width, with_value, with_change, next_end, next_value, ends_table}
+use Rattle.glk_pcval.specs.Step.{longest_varint, number_limit, fits_u32, next_of, with_end, with_width, with_value, with_change, next_end, next_value, ends_table}
 use Rattle.glk_pcval.specs.Table.{ranges_from, fault_from, start, state_after, ranges, fault, value_in, value_of, IsStepsOf, IsTableOf, IsTable}
-use Rattle.glk_pcval.proofs.VarintLemmas.{bool_cases}
-use Rattle.glk_pcval.proofs.TableLemmas.{ranges_passed, ranges_go, ranges_stop, fault_go, fault_stop}
-use Rattle.glk_pcval.proofs.FrontLemmas.{varint_front, next_cases, ends_itself}
+use Rattle.glk_pcval.proofs.TableLemmas.{ranges_skipped, ranges_go, ranges_stop, fault_go, fault_stop}
+use Rattle.glk_pcval.proofs.PrefixLemmas.{varint_prefix, next_cases, ends_itself}
 
--- a step takes bytes that are there, and a range is not the first state and ends below 2^32
-abbrev pub IsSound : ℕ → Next → Type 0
-IsSound n (next.Stop size) = (0 < size) × (size ≤ n)
-IsSound n (next.Broken at) = Unit {0}
-IsSound n (next.Range state size) = (0 < size) × (size ≤ n) × (state.first ≡ false) × (state.end < 2 ^ 32)
+-- a step takes bytes that are there; a range is not the first state, ends below 2^32, and not before `low`
+abbrev pub IsSound : ℕ → ℕ → Next → Type 0
+IsSound low n (next.Stop size) = (0 < size) × (size ≤ n)
+IsSound low n (next.Broken at) = Unit {0}
+IsSound low n (next.Range state size) = (0 < size) × (size ≤ n) × (state.first ≡ false) × (state.end < 2 ^ 32) × (low ≤ state.end)
 
-cond_some : {A : Type 0} (b : Bool) (x v : A) → cond b (Some x) None ≡ Some v → (b ≡ true) × (x ≡ v)
+pub cond_some : {A : Type 0} (b : Bool) (x v : A) → cond b (Some x) None ≡ Some v → (b ≡ true) × (x ≡ v)
 cond_some true x v is = (refl, cc)
 cond_some false x v is = absurd (let no : None ≡ Some v = is in cc)
 
-varint_some : (most : ℕ) (bytes : List ℕ) (v : Varint) → varint_of most bytes ≡ Some v → 0 < v.size
+varint_some : (most limit : ℕ) (bytes : List ℕ) (v : Varint) → varint_of most limit bytes ≡ Some v → 0 < v.size
 unfolding varint_of
-varint_some most bytes v is = let e = ap (λ (w : Varint). w.size) (cond_some _ _ v is).1 in omega (arith, e)
+varint_some most limit bytes v is = let e = ap (λ (w : Varint). w.size) (cond_some _ _ v is).1 in omega (arith, e)
 
-next_end_fits : (end width e : ℕ) → next_end end width ≡ Some e → e < 2 ^ 32
+next_end_fits : (end width e : ℕ) → next_end end width ≡ Some e → (e < 2 ^ 32) × (end ≤ e)
 unfolding next_end
 next_end_fits end width e is =
     let h = cond_some (fits_u32 (end + width)) (end + width) e is in
     let fits = h.0 in
     let same = h.1 in
-    grind (arith, nat_tests, fits, same)
+    (grind (arith, nat_tests, fits, same), omega (arith, same))
 
-end_sound : (n : ℕ) (value : ℤ) (taken size : ℕ) (r : Option ℕ) → 0 < taken → taken + size ≤ n → ((e : ℕ) → r ≡ Some e → e < 2 ^ 32) → IsSound n (with_end value taken size r)
-end_sound n value taken size None some inside fits = tt
-end_sound n value taken size (Some e) some inside fits = (omega arith, inside, refl, fits e refl)
+end_sound : (low n : ℕ) (value : ℤ) (taken size : ℕ) (r : Option ℕ) → 0 < taken → taken + size ≤ n
+    → ((e : ℕ) → r ≡ Some e → (e < 2 ^ 32) × (low ≤ e)) → IsSound low n (with_end value taken size r)
+end_sound low n value taken size None some inside fits = tt
+end_sound low n value taken size (Some e) some inside fits = let both = fits e refl in (omega arith, inside, refl, both.0, both.1)
 
-width_sound : (n end : ℕ) (value : ℤ) (taken : ℕ) (r : Option Varint) → 0 < taken → ((v : Varint) → r ≡ Some v → taken + v.size ≤ n) → IsSound n (with_width end value taken r)
+width_sound : (n end : ℕ) (value : ℤ) (taken : ℕ) (r : Option Varint) → 0 < taken → ((v : Varint) → r ≡ Some v → taken + v.size ≤ n) → IsSound end n (with_width end value taken r)
 width_sound n end value taken None some inside = tt
-width_sound n end value taken (Some w) some inside = end_sound n value taken w.size (next_end end w.value) some (inside w refl) (next_end_fits end w.value)
+width_sound n end value taken (Some w) some inside = end_sound end n value taken w.size (next_end end w.value) some (inside w refl) (next_end_fits end w.value)
 
-value_sound : (end : ℕ) (bytes : List ℕ) (taken : ℕ) (r : Option ℤ) → 0 < taken → taken ≤ length bytes → IsSound (length bytes) (with_value end bytes taken r)
+value_sound : (end : ℕ) (bytes : List ℕ) (taken : ℕ) (r : Option ℤ) → 0 < taken → taken ≤ length bytes → IsSound end (length bytes) (with_value end bytes taken r)
 value_sound end bytes taken None some inside = tt
 value_sound end bytes taken (Some value) some inside =
-    width_sound (length bytes) end value taken (varint_of most_bytes (drop taken bytes)) some
-    (λ v is. let l = length-drop taken bytes in let w = (varint_front most_bytes (drop taken bytes) [] v is).1 in omega (arith, l, w))
+    width_sound (length bytes) end value taken (varint_of longest_varint number_limit (drop taken bytes)) some
+    (λ v is. let l = length-drop taken bytes in let w = (varint_prefix longest_varint number_limit (drop taken bytes) [] v is).1 in omega (arith, l, w))
 
-cond_sound : (n : ℕ) (b : Bool) (x y : Next) → IsSound n x → IsSound n y → IsSound n (cond b x y)
-cond_sound n true x y p q = p
-cond_sound n false x y p q = q
+cond_sound : (low n : ℕ) (b : Bool) (x y : Next) → IsSound low n x → IsSound low n y → IsSound low n (cond b x y)
+cond_sound low n true x y p q = p
+cond_sound low n false x y p q = q
 
-change_sound : (from : State) (bytes : List ℕ) (r : Option Varint) → ((v : Varint) → r ≡ Some v → (0 < v.size) × (v.size ≤ length bytes)) → IsSound (length bytes) (with_change from bytes r)
+change_sound : (from : State) (bytes : List ℕ) (r : Option Varint) → ((v : Varint) → r ≡ Some v → (0 < v.size) × (v.size ≤ length bytes)) → IsSound from.end (length bytes) (with_change from bytes r)
 change_sound from bytes None is = tt
 change_sound from bytes (Some change) is =
     let h = is change refl in
-    cond_sound (length bytes) (ends_table from.first change.value) (next.Stop change.size) _ h
+    cond_sound from.end (length bytes) (ends_table from.first change.value) (next.Stop change.size) _ h
     (value_sound from.end bytes change.size (next_value from.value change.value) h.0 h.1)
 
-pub next_sound : (from : State) (bytes : List ℕ) → IsSound (length bytes) (next_of from bytes)
+pub next_sound : (from : State) (bytes : List ℕ) → IsSound from.end (length bytes) (next_of from bytes)
 unfolding next_of
-next_sound from bytes = change_sound from bytes (varint_of most_bytes bytes) (λ v is. (varint_some most_bytes bytes v is, (varint_front most_bytes bytes [] v is).1))
+next_sound from bytes = change_sound from bytes (varint_of longest_varint number_limit bytes) (λ v is. (varint_some longest_varint number_limit bytes v is, (varint_prefix longest_varint number_limit bytes [] v is).1))
 
-pub range_sound : (from state : State) (bytes : List ℕ) (size : ℕ) → next_of from bytes ≡ next.Range state size → IsSound (length bytes) (next.Range state size)
+pub range_sound : (from state : State) (bytes : List ℕ) (size : ℕ) → next_of from bytes ≡ next.Range state size → IsSound from.end (length bytes) (next.Range state size)
 range_sound from state bytes size is = rw is at (next_sound from bytes)
 
 -- no range reaches past the offsets of 32 bits
-pub none_beyond : (passed : ℕ) (from : State) (bytes : List ℕ) (off : ℕ) → 2 ^ 32 ≤ off → value_in (ranges_from passed from bytes) off ≡ None
+pub none_beyond : (skipped : ℕ) (from : State) (bytes : List ℕ) (off : ℕ) → 2 ^ 32 ≤ off → value_in (ranges_from skipped from bytes) off ≡ None
 unfolding ranges_from
-none_beyond passed from [] off high = refl
-none_beyond (suc passed) from (b ∷ s) off high = none_beyond passed from s off high
+none_beyond skipped from [] off high = refl
+none_beyond (suc skipped) from (b ∷ s) off high = none_beyond skipped from s off high
 none_beyond zero from (b ∷ s) off high = elim (next_cases (next_of from (b ∷ s))) [
   | inl stop ↦ rw (stop.1, ranges_from) refl
   | inr (inl bad) ↦ rw (bad.1, ranges_from) refl
@@ -84,15 +85,15 @@ none_beyond zero from (b ∷ s) off high = elim (next_cases (next_of from (b ∷
 ]
 
 -- bytes with steps and an end have no fault, and those ranges
-pub steps_read : (rs : List (ℤ × ℕ)) (from : State) (place : ℕ) (bytes : List ℕ) → IsStepsOf from rs bytes
-    → (fault_from 0 from place bytes ≡ None) × (ranges_from 0 from bytes ≡ rs)
-steps_read [] from place bytes is =
+pub steps_read : (rs : List (ℤ × ℕ)) (from : State) (offset : ℕ) (bytes : List ℕ) → IsStepsOf from rs bytes
+    → (fault_from 0 from offset bytes ≡ None) × (ranges_from 0 from bytes ≡ rs)
+steps_read [] from offset bytes is =
     let whole : (length bytes == length bytes) ≡ true = eq-eqb (length bytes) (length bytes) refl in
-    (fault_stop from place bytes (length bytes) is ∙ rw whole refl, ranges_stop from bytes (length bytes) is)
-steps_read (r ∷ rs) from place bytes is =
+    (fault_stop from offset bytes (length bytes) is ∙ rw whole refl, ranges_stop from bytes (length bytes) is)
+steps_read (r ∷ rs) from offset bytes is =
     let sound = range_sound from (state_after r) bytes is.0 is.1 in
-    let rest = steps_read rs (state_after r) (place + is.0) (drop is.0 bytes) is.2 in (
-      fault_go from (state_after r) place bytes is.0 is.1 sound.0 sound.1 ∙ rest.0,
+    let rest = steps_read rs (state_after r) (offset + is.0) (drop is.0 bytes) is.2 in (
+      fault_go from (state_after r) offset bytes is.0 is.1 sound.0 sound.1 ∙ rest.0,
       ranges_go from (state_after r) bytes is.0 is.1 sound.0 ∙ ap (λ l. r ∷ l) rest.1,
     )
 
@@ -102,10 +103,10 @@ table_read rs bytes (inl none) = (ap fault none.1, ap ranges none.1 ∙ sym none
 table_read rs [] (inr steps) = (refl, (steps_read rs start 0 [] steps).1)
 table_read rs (b ∷ s) (inr steps) = steps_read rs start 0 (b ∷ s) steps
 
-ends_there : (n size place : ℕ) → cond (n == size) None (Some place) ≡ None → n ≡ size
-ends_there n size place whole = elim (bool_cases (n == size)) [
+ends_there : (n size offset : ℕ) → cond (n == size) None (Some offset) ≡ None → n ≡ size
+ends_there n size offset whole = elim (bool_cases (n == size)) [
   | inl same ↦ grind (arith, nat_tests, same)
-  | inr other ↦ absurd (let e : Some place ≡ None = rw other at whole in cc)
+  | inr other ↦ absurd (let e : Some offset ≡ None = rw other at whole in cc)
 ]
 
 one_step : (from state : State) (b : ℕ) (s : List ℕ) (size : ℕ) → next_of from (b ∷ s) ≡ next.Range state size
@@ -116,26 +117,26 @@ one_step from state b s (suc k) is rest =
     let same : state_after (state.value, state.end) ≡ state = ap (λ f. record { first = f; value = state.value; end = state.end }) (sym sound.2) in
     let tail : IsStepsOf state (ranges_from k state s) (drop k s) = rw sub-one at rest in
     let P : List (ℤ × ℕ) → Type 0 = λ rs. IsStepsOf state rs (drop k s) in
-    let tail_read : IsStepsOf state (ranges_from 0 state (drop k s)) (drop k s) = subst P (ranges_passed k state s) tail in
+    let tail_read : IsStepsOf state (ranges_from 0 state (drop k s)) (drop k s) = subst P (ranges_skipped k state s) tail in
     let Q : State → Type 0 = λ st. IsStepsOf st (ranges_from 0 state (drop k s)) (drop k s) in
     let R : List (ℤ × ℕ) → Type 0 = λ rs. IsStepsOf from rs (b ∷ s) in
     subst R (sym (ranges_go from state (b ∷ s) (suc k) is sound.0))
     (suc k, is ∙ ap (λ st. next.Range st (suc k)) (sym same), subst Q (sym same) tail_read)
 
-steps_of : (passed : ℕ) (from : State) (place : ℕ) (bytes : List ℕ) → fault_from passed from place bytes ≡ None → IsStepsOf from (ranges_from passed from bytes) (drop passed bytes)
+steps_of : (skipped : ℕ) (from : State) (offset : ℕ) (bytes : List ℕ) → fault_from skipped from offset bytes ≡ None → IsStepsOf from (ranges_from skipped from bytes) (drop skipped bytes)
 unfolding ranges_from fault_from
-steps_of passed from place [] whole = absurd (let e : Some place ≡ None = whole in cc)
-steps_of (suc passed) from place (b ∷ s) whole = steps_of passed from (place + 1) s whole
-steps_of zero from place (b ∷ s) whole = elim (next_cases (next_of from (b ∷ s))) [
+steps_of skipped from offset [] whole = absurd (let e : Some offset ≡ None = whole in cc)
+steps_of (suc skipped) from offset (b ∷ s) whole = steps_of skipped from (offset + 1) s whole
+steps_of zero from offset (b ∷ s) whole = elim (next_cases (next_of from (b ∷ s))) [
   | inl stop ↦
-      let fact : cond (length (b ∷ s) == stop.0) None (Some (place + stop.0)) ≡ None = rw (stop.1, fault_from) at whole in
-      let e : length (b ∷ s) ≡ stop.0 = ends_there (length (b ∷ s)) stop.0 (place + stop.0) fact in
+      let fact : cond (length (b ∷ s) == stop.0) None (Some (offset + stop.0)) ≡ None = rw (stop.1, fault_from) at whole in
+      let e : length (b ∷ s) ≡ stop.0 = ends_there (length (b ∷ s)) stop.0 (offset + stop.0) fact in
       let R : List (ℤ × ℕ) → Type 0 = λ rs. IsStepsOf from rs (b ∷ s) in
       subst R (sym (ranges_stop from (b ∷ s) stop.0 stop.1)) (stop.1 ∙ ap (λ n. next.Stop n) (sym e))
-  | inr (inl bad) ↦ absurd (let e : Some (place + bad.0) ≡ None = rw (bad.1, fault_from) at whole in cc)
+  | inr (inl bad) ↦ absurd (let e : Some (offset + bad.0) ≡ None = rw (bad.1, fault_from) at whole in cc)
   | inr (inr go) ↦
-      let rest : fault_from (go.1 - 1) go.0 (place + 1) s ≡ None = rw (go.2, fault_from) at whole in
-      one_step from go.0 b s go.1 go.2 (steps_of (go.1 - 1) go.0 (place + 1) s rest)
+      let rest : fault_from (go.1 - 1) go.0 (offset + 1) s ≡ None = rw (go.2, fault_from) at whole in
+      one_step from go.0 b s go.1 go.2 (steps_of (go.1 - 1) go.0 (offset + 1) s rest)
 ]
 
 -- bytes without a fault are a table of their ranges
@@ -153,7 +154,7 @@ is_table bytes whole = (ranges bytes, whole_table bytes whole)
 pub no_table : (bytes : List ℕ) (offset : ℕ) → fault bytes ≡ Some offset → IsTable bytes → ⊥
 no_table bytes offset bad is = let e : Some offset ≡ None = sym bad ∙ (table_read is.0 bytes is.1).0 in cc
 
--- a table ends itself: more bytes behind it change nothing
+-- a table ends itself: more bytes after it change nothing
 pub ranges_alone : (bytes tail : List ℕ) → bytes ≢ [] → fault bytes ≡ None → ranges (bytes ++ tail) ≡ ranges bytes
 ranges_alone [] tail some whole = absurd (some refl)
 ranges_alone (b ∷ s) tail some whole = ends_itself (b ∷ s) tail (omega arith) whole

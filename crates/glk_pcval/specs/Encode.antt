@@ -1,9 +1,9 @@
--- Which ranges can be written as a table, and what the writer keeps.
-use Rattle.std.specs.Prelude.{ℕ, ◌≡◌, ◌≢◌, ◌<◌, List, [], ◌∷◌, ◌++◌, length, Some, true, false, ◌⊎◌, ℤ, ◌-ℤ◌, FitsSigned}
+-- Which ranges can be written as a table, and its bytes.
+use Rattle.std.specs.Prelude.{ℕ, zero, suc, ◌≢◌, ◌+◌, ◌-◌, ◌*◌, ◌/◌, ◌%◌, ◌<◌, List, [], ◌∷◌, ◌++◌, nat_lt, if◌then◌else◌, ℤ, pos, negsuc, ◌-ℤ◌, FitsSigned}
 use Rattle.std.specs.Int.{w32}
 use Rattle.glk_pcval.specs.declared.step.State.{State}
-use Rattle.glk_pcval.specs.Varint.{varint_of}
-use Rattle.glk_pcval.specs.Table.{ranges_from, fault_from, start, state_after}
+use Rattle.glk_pcval.specs.Step.{longest_varint}
+use Rattle.glk_pcval.specs.Table.{start, state_after}
 
 -- each range ends above the one before, has another value, and the change fits 32 bits
 abbrev pub Continues : ℤ × ℕ → List (ℤ × ℕ) → Type 0
@@ -18,33 +18,28 @@ IsEncodable [] = Unit {0}
 IsEncodable (range ∷ ranges) =
     (start.end < range.1) × FitsSigned w32 (range.0 -ℤ start.value) × Continues range ranges
 
--- the same step by step: a range may stand behind what has been read
-abbrev pub MayFollow : State → State → Type 0
-MayFollow from to =
-    FitsSigned w32 (to.value -ℤ from.value) × (from.end < to.end)
-    × ((from.first ≡ true) ⊎ (from.value ≢ to.value)) × (to.first ≡ false)
+-- the shortest spelling of a number, of at most `most` bytes: in groups of seven bits, the lowest first, up to the
+-- highest that is not 0
+abbrev pub varint_bytes : ℕ → ℕ → List ℕ
+varint_bytes zero n = []
+varint_bytes (suc most) n = if nat_lt n 128 then n ∷ [] else (n % 128 + 128) ∷ varint_bytes most (n / 128)
 
--- each of these ranges may
-abbrev pub Follows : State → List (ℤ × ℕ) → Type 0
-Follows from [] = Unit {0}
-Follows from (range ∷ ranges) = MayFollow from (state_after range) × Follows (state_after range) ranges
+-- the number that stands for a change: 0, 2, 4 .. for 0, 1, 2 .., and 1, 3 .. for -1, -2 ..
+unfoldable pub number_of : ℤ → ℕ
+number_of (pos n) = 2 * n
+number_of (negsuc n) = 2 * n + 1
 
--- these bytes are read as the number, whatever follows them
-pub record Spells (most : ℕ) (bytes : List ℕ) (number : ℕ) : Type 0 where
-  pub some : 0 < length bytes
-  pub reads : (rest : List ℕ) → varint_of most (bytes ++ rest) ≡ Some (record { value = number; size = length bytes })
+-- a step from a state to a range: the change of the value, and how far the range reaches
+abbrev pub step_bytes : State → ℤ × ℕ → List ℕ
+step_bytes from range =
+    varint_bytes longest_varint (number_of (range.0 -ℤ from.value)) ++ varint_bytes longest_varint (range.1 - from.end)
 
--- such bytes were put behind the others
-pub record Appends (before now : List ℕ) (most number : ℕ) : Type 0 where
-  pub bytes : List ℕ
-  pub joined : now ≡ before ++ bytes
-  pub spells : Spells most bytes number
+-- a step for each range, and a zero
+abbrev pub steps_bytes : State → List (ℤ × ℕ) → List ℕ
+steps_bytes from [] = 0 ∷ []
+steps_bytes from (range ∷ ranges) = step_bytes from range ++ steps_bytes (state_after range) ranges
 
--- what is read behind these bytes goes on from the state, behind the ranges done
-pub record IsFront (out : List ℕ) (from : State) (done : List (ℤ × ℕ)) : Type 0 where
-  pub ranges : (tail : List ℕ) → ranges_from 0 start (out ++ tail) ≡ done ++ ranges_from 0 from tail
-  pub fault : (tail : List ℕ) → fault_from 0 start 0 (out ++ tail) ≡ fault_from 0 from (length out) tail
-
--- one range more stands there
-abbrev pub AddsRange : List ℕ → List ℕ → State → State → Type 0
-AddsRange before now from to = (done : List (ℤ × ℕ)) → IsFront before from done → IsFront now to (done ++ (to.value, to.end) ∷ [])
+-- the table that is written of ranges
+abbrev pub table_bytes : List (ℤ × ℕ) → List ℕ
+table_bytes [] = []
+table_bytes (range ∷ ranges) = steps_bytes start (range ∷ ranges)

@@ -8,7 +8,7 @@ use Rattle.glk_pcval.specs.Step.{next_of}
 abbrev pub start : State
 start = record { first = true; value = negsuc 0; end = 0 }
 
--- behind a range, with its value at its end
+-- after a range, with its value at its end
 abbrev pub state_after : ℤ × ℕ → State
 state_after range = record { first = false; value = range.0; end = range.1 }
 
@@ -27,13 +27,13 @@ abbrev pub IsTable : List ℕ → Type 0
 IsTable bytes = (ranges : List (ℤ × ℕ)) × IsTableOf ranges bytes
 
 -- The ranges of any bytes from a state on, each a value and the offset where it ends: those before the first end,
--- the first varint that breaks a rule, or the end of the bytes. `passed` bytes at the front belong to the step before.
+-- the first varint that breaks a rule, or the end of the bytes. The first `skipped` bytes belong to the step before.
 unfoldable pub ranges_from : ℕ → State → List ℕ → List (ℤ × ℕ)
-ranges_from passed from [] = []
-ranges_from (suc passed) from (byte ∷ rest) = ranges_from passed from rest
+ranges_from skipped from [] = []
+ranges_from (suc skipped) from (byte ∷ rest) = ranges_from skipped from rest
 ranges_from zero from (byte ∷ rest) = elim (next_of from (byte ∷ rest)) [
   | next.Stop size ↦ []
-  | next.Broken place ↦ []
+  | next.Broken at ↦ []
   | next.Range state size ↦ (state.value, state.end) ∷ ranges_from (size - 1) state rest
 ]
 
@@ -51,15 +51,15 @@ abbrev pub value_of : List ℕ → ℤ → Option ℤ
 value_of bytes (pos off) = value_in (ranges bytes) off
 value_of bytes (negsuc below) = None
 
--- The offset where bytes stop being a table, from a state on, with `place` bytes before these: the first varint that
--- breaks a rule, else the first byte behind the end, else, where the end is missing, the number of bytes.
+-- The offset where bytes stop being a table, from a state on, with `at` bytes before these: the first varint that
+-- breaks a rule, else the first byte after the end, else, where the end is missing, the number of bytes.
 unfoldable pub fault_from : ℕ → State → ℕ → List ℕ → Option ℕ
-fault_from passed from place [] = Some place
-fault_from (suc passed) from place (byte ∷ rest) = fault_from passed from (place + 1) rest
-fault_from zero from place (byte ∷ rest) = elim (next_of from (byte ∷ rest)) [
-  | next.Stop size ↦ cond (length (byte ∷ rest) == size) None (Some (place + size))
-  | next.Broken at ↦ Some (place + at)
-  | next.Range state size ↦ fault_from (size - 1) state (place + 1) rest
+fault_from skipped from at [] = Some at
+fault_from (suc skipped) from at (byte ∷ rest) = fault_from skipped from (at + 1) rest
+fault_from zero from at (byte ∷ rest) = elim (next_of from (byte ∷ rest)) [
+  | next.Stop size ↦ cond (length (byte ∷ rest) == size) None (Some (at + size))
+  | next.Broken size ↦ Some (at + size)
+  | next.Range state size ↦ fault_from (size - 1) state (at + 1) rest
 ]
 
 -- the one offset of bytes that are no table; no bytes are one

@@ -2,13 +2,16 @@
 #![tactic(auto)]
 
 mod encoder;
+mod laws;
 mod step;
 mod steps;
 #[cfg(test)]
 mod tests;
-mod varint;
 mod verdict;
 
 pub use encoder::encode;
+pub use laws::{
+    ends_never_fall, numbers_are_shortest, ranges_decide_values, tables_end_themselves,
+};
 pub use steps::{Steps, value_at};
 pub use verdict::{PcBad, check};

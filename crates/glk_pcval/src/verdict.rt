@@ -1,9 +1,8 @@
 // Whether bytes are a pc table.
-ghost use Rattle.std.specs.Prelude.{◌≡◌, ◌≢◌, ◌↔◌, ◌<◌, ◌^◌, ◌++◌, ℕ, List, length, IfErr, OnOk, IsOk, None, Some, []};
-ghost use Rattle.glk_pcval.specs.Table.{fault, ranges, IsTable};
+ghost use Rattle.std.specs.Prelude.{◌≡◌, ◌↔◌, ◌<◌, ◌^◌, length, IfErr, OnOk, IsOk, None, Some};
+ghost use Rattle.glk_pcval.specs.Table.{fault, IsTable};
 
-use crate::step::{Next, START, next_step};
-use crate::varint::behind;
+use crate::step::{Next, START, after, next_step};
 use thiserror::Error;
 
 /// Bytes that are no pc table. `offset` is that of the first varint that breaks a rule, else that
@@ -16,14 +15,14 @@ pub struct PcBad {
 
 /// Whether the bytes are a pc table: none at all, or steps and an end that takes the last byte.
 /// It takes no memory, and one pass.
+///
+/// # Errors
+/// The one offset that says why not.
 pub fn check(table: &[u8]) -> Result<(), PcBad>
     requires { length table.now < 2 ^ 32 }
     ensures accepts { IsOk result ↔ IsTable table.now }
     ensures whole { OnOk result (fault table.now ≡ None) }
     ensures offset { IfErr result (λ bad. fault table.now ≡ Some bad.offset) }
-
-    // A table ends itself: more bytes behind it change nothing.
-    ensures alone { OnOk result ((tail : List ℕ) → table.now ≢ [] → ranges (table.now ++ tail) ≡ ranges table.now) }
 {
     if table.is_empty() {
         return Ok(());
@@ -31,9 +30,9 @@ pub fn check(table: &[u8]) -> Result<(), PcBad>
     let mut at = 0;
     let mut from = START;
     loop {
-        match next_step(from, behind(table, at)) {
-            Next::Broken { at: place } => return Err(PcBad {
-                offset: (at + place) as u32,
+        match next_step(from, after(table, at)) {
+            Next::Broken { at: more } => return Err(PcBad {
+                offset: (at + more) as u32,
             }),
             Next::Stop { size } => {
                 if table.len() - at == size {

@@ -3,4 +3,5 @@ pub mod Splices
 pub mod Patching
 pub mod Cuts
 pub mod Unique
-pub mod Laying
+pub mod Patchable
+pub mod Joined

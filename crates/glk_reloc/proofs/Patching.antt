@@ -153,7 +153,7 @@ module _ (base : ℕ) (old mid : List ℕ) (fields : List Field) (i : ℕ) (d : 
           size = h.outside.size;
           same = λ p all. h.outside.same p (All-take (IsOutside (base + p)) i fields all);
         });
-        told = first_at fields i this o lt (get_or_default fields i this d lt) h.room (λ r. lacks (subst Room (sym same) r)) index (value ∙ same);
+        answers = first_at fields i this o lt (get_or_default fields i this d lt) h.room (λ r. lacks (subst Room (sym same) r)) index (value ∙ same);
         inside = tt;
       }
 
@@ -162,7 +162,33 @@ pub each_done : (base : ℕ) (old new : List ℕ) (fields : List Field) (i : ℕ
 each_done base old new fields i le h =
     let P : List Field → Type 0 = λ l. HasPatched base old new l in
     let all : HasPatched base old new fields = subst P (take_all i fields le) h in
-    record { outside = all.outside; told = all.room; inside = all.inside }
+    record { outside = all.outside; answers = all.room; inside = all.inside }
+
+-- the first overflow of two lists
+module _ (fs gs : List Field) where
+  pub first_left : (o : Overflow) → IsFirstOverflow fs o → IsFirstOverflow (fs ++ gs) o
+  first_left o h = record {
+    before = h.before;
+    field = h.field;
+    after = h.after ++ gs;
+    fields_are = ap (λ x. x ++ gs) h.fields_are ∙ append_assoc h.before (h.field ∷ h.after) gs;
+    have_room = h.have_room;
+    lacks_room = h.lacks_room;
+    index_is = h.index_is;
+    value_is = h.value_is;
+  }
+
+  pub first_right : (o : Overflow) → All HasRoom fs → IsFirstOverflow gs o → IsFirstOverflow (fs ++ gs) (later_by (length fs) o)
+  first_right o room h = record {
+    before = fs ++ h.before;
+    field = h.field;
+    after = h.after;
+    fields_are = ap (λ x. fs ++ x) h.fields_are ∙ sym (append_assoc fs h.before (h.field ∷ h.after));
+    have_room = All-append HasRoom fs h.before room h.have_room;
+    lacks_room = h.lacks_room;
+    index_is = let x = h.index_is in omega (arith, length-append fs h.before);
+    value_is = h.value_is;
+  }
 
 -- two parts
 module _ (base : ℕ) (l l' r r' : List ℕ) (fs gs : List Field) (within : All (λ f. end_of f ≤ base + length l) fs) (beyond : All (λ g. base + length l ≤ g.at) gs) where
@@ -194,43 +220,19 @@ module _ (base : ℕ) (l l' r r' : List ℕ) (fs gs : List Field) (within : All 
       get_or-append_right l' r' (length l) p 0 size (omega arith) ∙ b f i (p - length l) c lt (omega arith))
       (Contains-append_cases fs gs f in')
 
-  first_left : (o : Overflow) → IsFirstOverflow fs o → IsFirstOverflow (fs ++ gs) o
-  first_left o h = record {
-    before = h.before;
-    field = h.field;
-    after = h.after ++ gs;
-    fields_are = ap (λ x. x ++ gs) h.fields_are ∙ append_assoc h.before (h.field ∷ h.after) gs;
-    have_room = h.have_room;
-    lacks_room = h.lacks_room;
-    index_is = h.index_is;
-    value_is = h.value_is;
-  }
-
-  first_right : (o : Overflow) → All HasRoom fs → IsFirstOverflow gs o → IsFirstOverflow (fs ++ gs) (later_by (length fs) o)
-  first_right o room h = record {
-    before = fs ++ h.before;
-    field = h.field;
-    after = h.after;
-    fields_are = ap (λ x. fs ++ x) h.fields_are ∙ sym (append_assoc fs h.before (h.field ∷ h.after));
-    have_room = All-append HasRoom fs h.before room h.have_room;
-    lacks_room = h.lacks_room;
-    index_is = let x = h.index_is in omega (arith, length-append fs h.before);
-    value_is = h.value_is;
-  }
-
   pub patches_halves : (a b : Result (Unit {0}) Overflow) → Patches base l l' fs a → Patches (base + length l) r r' gs b → Patches base (l ++ r) (l' ++ r') (fs ++ gs) (both_answers (length fs) a b)
   patches_halves (Err o) b x y = record {
     outside = outside_halves x.outside y.outside;
-    told = first_left o x.told;
+    answers = first_left fs gs o x.answers;
     inside = tt;
   }
   patches_halves (Ok u) (Err o) x y = record {
     outside = outside_halves x.outside y.outside;
-    told = first_right o x.told y.told;
+    answers = first_right fs gs o x.answers y.answers;
     inside = tt;
   }
   patches_halves (Ok u) (Ok v) x y = record {
     outside = outside_halves x.outside y.outside;
-    told = All-append HasRoom fs gs x.told y.told;
+    answers = All-append HasRoom fs gs x.answers y.answers;
     inside = inside_halves x.outside.size x.inside y.inside;
   }

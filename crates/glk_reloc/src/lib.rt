@@ -8,11 +8,16 @@
 mod fields;
 mod image;
 mod laws;
+mod references;
 #[cfg(test)]
 mod tests;
 mod values;
 
 pub use fields::{Field, Overflow, patch};
 pub use image::patch_all;
-pub use laws::{one_answer, one_patched};
+pub use laws::{
+    bytes_sized, chunks_patched, early_answer, joined_answer, joined_patched, one_answer,
+    one_patched, part_patched, unpatched_same,
+};
+pub use references::{StandIns, Target, field_value};
 pub use values::{fits, value};

@@ -1,26 +1,24 @@
 -- What the words of a closed table say of the lists of its seat.
-use Rattle.std.proofs.Common.{◌≡◌, ◌≢◌, ℕ, zero, suc, ◌+◌, ◌-◌, ◌^◌, ◌<◌, ◌≤◌, min, max, Bool, true, false, List, [], ◌∷◌, ◌++◌, take, refl, sym, ap, ◌∙◌, subst, ⊎_elim, eq-eqb, ne_eqb, arith}
-use Rattle.std.specs.Prelude.{slice_index, Contains, ◌==◌, if◌then◌else◌}
-use mathlib.Core.Option.{some, some-injective, some-ne-none}
+use Rattle.std.proofs.Common.{◌≡◌, ◌≢◌, ℕ, ◌+◌, ◌-◌, ◌^◌, ◌<◌, ◌≤◌, min, max, Bool, true, false, List, [], ◌∷◌, refl, sym, ap, ◌∙◌, subst, ⊎_elim, eq-eqb, ne_eqb, arith}
+use Rattle.std.specs.Prelude.{slice_index, slice_index_or, get_or, nat_lt, length, Contains, ◌==◌, if◌then◌else◌}
+use Rattle.std.proofs.lemmas.Grind.{get_or_default_zero}
+use Rattle.std.proofs.lemmas.List.{get_or_default}
+use mathlib.Core.Option.{some}
 use mathlib.Core.Logic.{dite}
 use native.Mathlib.Decide.{ℕ_discrete, dec_le}
 use lib.ListN.{get_elem?}
 use Rattle.atomic_table.specs.Table.{Final, Seen}
 use Rattle.glk_table.specs.Rule.{no_rank, rank_word, strong_word, id_word, OnePlaceEach, least_by, least_at, least_id, greatest_at, Rule, holds, fold_views}
-use Rattle.glk_table.specs.Elections.{Elects, election_of, IsLeastId, IsLeastOfKey, IsLeastRank, IsGreatestId, HasNone}
+use Rattle.glk_table.specs.Elections.{Election, Elects, IsElected, election_of, IsLeastId, IsLeastOfKey, IsLeastRank, IsGreatestId, HasNone}
 use Rattle.glk_table.specs.Seats.{HasPlace}
+use Rattle.glk_table.specs.declared.elected.Arrays.{Arrays}
 use Rattle.glk_table.specs.declared.view.View.{View}
 use Rattle.glk_table.proofs.Folds.{all_at, all_idle, add_left, min_left, max_left, sum_zero, without, without_at}
 use Rattle.glk_table.proofs.Members.{cons_cases, here, there, in_none}
 use Rattle.glk_table.proofs.Steps.{knows}
 use Rattle.glk_table.proofs.Forks.{least_top}
 
-pub take_push : (l : List ℕ) (i x : ℕ) → get_elem? l i ≡ some x → take i l ++ x ∷ [] ≡ take (suc i) l
-take_push [] i x e = absurd (some-ne-none x (sym e))
-take_push (y ∷ ys) zero x e = λ k. sym (some-injective y x e) k ∷ []
-take_push (y ∷ ys) (suc i) x e = ap (λ l. y ∷ l) (take_push ys i x e)
-
--- the seat with the whole part holds all that was told
+-- the seat with the whole part holds all calls and offers
 module _ (size : ℕ) (ks : List (ℕ × ℕ)) (ws : List ℕ) (vs : List View) (r : Rule size ks ws vs) (id : ℕ) (v : View) (at : get_elem? vs id ≡ some v) (whole : v.part ≡ 2 ^ 32) where
   rest_zero : fold_views ◌+◌ 0 (λ u. u.part) (without id vs) ≡ 0
   rest_zero = let all = all_at ◌+◌ 0 add_left refl (λ u. u.part) vs id v at in let w = r.whole in omega arith
@@ -207,3 +205,62 @@ module _ (v : View) (size : ℕ) (ws : List ℕ) (e : Elects v size ws) (p : ℕ
           is_greatest = λ a m. let le = greatest_le p v.strong a m in omega arith;
         },
       )
+
+-- the arrays answer what the words do
+module _ (v : View) (a : Arrays) (e : IsElected v a) (p : ℕ) (place : HasPlace v.entered p) where
+  inside : p < e.size
+  inside = below v e.size e.words e.elects p place
+
+  pub in_keys : p < length a.keys.items
+  in_keys = let h = inside in let long = e.arrays.keys.long in omega arith
+
+  pub in_ranks : p < length a.ranks.items
+  in_ranks = let h = inside in let long = e.arrays.ranks.long in omega arith
+
+  pub in_strong : p < length a.strong.items
+  in_strong = let h = inside in let long = e.arrays.strong.long in omega arith
+
+  pub in_has_strong : p < length a.has_strong.items
+  in_has_strong = let h = inside in let long = e.arrays.has_strong.long in omega arith
+
+  key_word : slice_index e.words (id_word e.size p) ≡ slice_index a.keys.items p
+  key_word = let h = e.arrays.keys.each p inside in let fits = key_fits v e.size e.words e.elects p place in omega arith
+
+  pub key_answer : IsLeastId v.entered p (slice_index a.keys.items p)
+  key_answer = subst (IsLeastId v.entered p) key_word (key_is v e.size e.words e.elects p place)
+
+  pub key_answer_of_all : IsLeastOfKey (election_of v) p (slice_index a.keys.items p)
+  key_answer_of_all = subst (IsLeastOfKey (election_of v) p) key_word (key_of_all v e.size e.words e.elects p place)
+
+  pub no_least : slice_index a.ranks.items p ≡ no_rank → HasNone v.ranks p
+  no_least h = least_none v e.size e.words e.elects p place (sym (e.arrays.ranks.each p inside) ∙ h)
+
+  pub least_answer : slice_index a.ranks.items p ≢ no_rank → IsLeastRank v.ranks p (slice_index a.ranks.items p)
+  least_answer h =
+      let word = e.arrays.ranks.each p inside in
+      subst (IsLeastRank v.ranks p) (sym word) (least_some v e.size e.words e.elects p place (λ none. h (word ∙ none)))
+
+  pub no_strong : slice_index_or a.has_strong.items p false ≡ false → HasNone v.strong p
+  no_strong h =
+      let word : nat_lt 0 (slice_index e.words (strong_word e.size p)) ≡ false = sym (e.arrays.has_strong.each p inside) ∙ h in
+      strong_none v e.size e.words e.elects p place (grind (arith, word))
+
+  pub strong_answer : slice_index_or a.has_strong.items p false ≡ true → IsGreatestId v.strong p (slice_index a.strong.items p)
+  strong_answer h =
+      let word : nat_lt 0 (slice_index e.words (strong_word e.size p)) ≡ true = sym (e.arrays.has_strong.each p inside) ∙ h in
+      let some : 0 < slice_index e.words (strong_word e.size p) = grind (arith, word) in
+      let greatest = strong_some v e.size e.words e.elects p place some in
+      let fits = greatest.0 in
+      let item = e.arrays.strong.each p inside in
+      let is : slice_index e.words (strong_word e.size p) - 1 ≡ slice_index a.strong.items p = omega arith in
+      subst (IsGreatestId v.strong p) is greatest.1
+
+pub placed_in : (v : View) (e : Election) (p : ℕ) → election_of v ≡ e → HasPlace e.entered p → HasPlace v.entered p
+placed_in v e p is place = subst (λ (x : Election). HasPlace x.entered p) (sym is) place
+
+-- an item that was read
+pub item_at : (xs : List ℕ) (i p r : ℕ) → r ≡ get_or xs i r → i ≡ p → p < length xs → r ≡ slice_index xs p
+item_at xs i p r is same inside = is ∙ (get_or_default_zero xs i r (omega (arith, same, inside)) ∙ ap (slice_index xs) same)
+
+pub flag_at : (xs : List Bool) (i p : ℕ) (r : Bool) → r ≡ get_or xs i r → i ≡ p → p < length xs → r ≡ slice_index_or xs p false
+flag_at xs i p r is same inside = is ∙ (get_or_default xs i r false (omega (arith, same, inside)) ∙ ap (λ k. slice_index_or xs k false) same)

@@ -140,7 +140,7 @@ pub fits_grows : (size : ℕ) (ks : List (ℕ × ℕ)) (ws now : List ℕ) (v : 
 fits_grows size ks ws now v grow f = record {
   size_is = f.size_is;
   keys_is = f.keys_is;
-  stands = λ p w m. let s = f.stands p w m in (s.0, s.1, grow p s.0 (positive (slice_index ws p) w s.2 s.1) ∙ s.2);
+  stays = λ p w m. let s = f.stays p w m in (s.0, s.1, grow p s.0 (positive (slice_index ws p) w s.2 s.1) ∙ s.2);
   placed = λ id p m.
       let s = f.placed id p m in
       let same = grow p s.1 s.2 in
@@ -153,10 +153,10 @@ fits_grows size ks ws now v grow f = record {
 pub knowing : (size : ℕ) (ks : List (ℕ × ℕ)) (ws : List ℕ) (v : View) → length ks < size → Places size ks ws → Fits size ks ws v → Knowing size ks v
 knowing size ks ws v room places f = record {
   room = room;
-  seen = λ p w m. let s = f.stands p w m in let P : ℕ → Type 0 = λ n. n ≤ length ks in (s.0, s.1, subst P s.2 (places.named p s.0));
+  seen = λ p w m. let s = f.stays p w m in let P : ℕ → Type 0 = λ n. n ≤ length ks in (s.0, s.1, subst P s.2 (places.named p s.0));
   apart = λ p w q z m n e.
-      let s = f.stands p w m in
-      let t = f.stands q z n in
+      let s = f.stays p w m in
+      let t = f.stays q z n in
       places.apart p q s.0 t.0 (positive (slice_index ws p) w s.2 s.1) (positive (slice_index ws q) z t.2 t.1) (ap (key_in ks) s.2 ∙ (e ∙ sym (ap (key_in ks) t.2)));
   placed = λ id p m. let s = f.placed id p m in (s.0, s.1);
   calls = record {

@@ -42,7 +42,7 @@ module _ (size : ℕ) (ks : List (ℕ × ℕ)) (ws : List ℕ) (vs : List View) 
   fits_kept h = record {
     size_is = λ _. f.size_is (omega arith);
     keys_is = λ _. f.keys_is (omega arith);
-    stands = f.stands;
+    stays = f.stays;
     placed = f.placed;
     ranked = f.ranked;
     named = f.named;
@@ -53,7 +53,7 @@ module _ (size : ℕ) (ks : List (ℕ × ℕ)) (ws : List ℕ) (vs : List View) 
   fits_given h = record {
     size_is = λ _. f.size_is (omega arith);
     keys_is = λ _. f.keys_is (omega arith);
-    stands = λ p w m. absurd (in_none (p, w) m);
+    stays = λ p w m. absurd (in_none (p, w) m);
     placed = λ a p m. absurd (in_none (a, p) m);
     ranked = λ p k m. absurd (in_none (p, k) m);
     named = λ p k m. absurd (in_none (p, k) m);
@@ -91,7 +91,7 @@ module _ (size : ℕ) (ks : List (ℕ × ℕ)) (ws : List ℕ) (vs : List View) 
     fits_both = record {
       size_is = λ _. f.size_is part;
       keys_is = λ _. f.keys_is part;
-      stands = λ p n m. ⊎_elim (λ (t : Contains v.seen (p, n)). f.stands p n t) (λ (t : Contains w.seen (p, n)). g.stands p n t) (Contains-append_cases v.seen w.seen (p, n) m);
+      stays = λ p n m. ⊎_elim (λ (t : Contains v.seen (p, n)). f.stays p n t) (λ (t : Contains w.seen (p, n)). g.stays p n t) (Contains-append_cases v.seen w.seen (p, n) m);
       placed = λ a p m. ⊎_elim (λ (t : Contains v.entered (a, p)). f.placed a p t) (λ (t : Contains w.entered (a, p)). g.placed a p t) (Contains-append_cases v.entered w.entered (a, p) m);
       ranked = λ p n m. ⊎_elim (λ (t : Contains v.ranks (p, n)). f.ranked p n t) (λ (t : Contains w.ranks (p, n)). g.ranked p n t) (Contains-append_cases v.ranks w.ranks (p, n) m);
       named = λ p n m. ⊎_elim (λ (t : Contains v.strong (p, n)). f.named p n t) (λ (t : Contains w.strong (p, n)). g.named p n t) (Contains-append_cases v.strong w.strong (p, n) m);
@@ -102,7 +102,7 @@ module _ (size : ℕ) (ks : List (ℕ × ℕ)) (ws : List ℕ) (vs : List View) 
     fits_spent = record {
       size_is = λ h. absurd (omega arith);
       keys_is = λ h. absurd (omega arith);
-      stands = λ p n m. absurd (in_none (p, n) m);
+      stays = λ p n m. absurd (in_none (p, n) m);
       placed = λ a p m. absurd (in_none (a, p) m);
       ranked = λ p k m. absurd (in_none (p, k) m);
       named = λ p k m. absurd (in_none (p, k) m);

@@ -4,9 +4,10 @@ pub mod Forks
 pub mod Members
 pub mod Opening
 pub mod Pigeon
+pub mod Powers
 pub mod RankOrder
 pub mod Sights
-pub mod Filled
 pub mod Filling
 pub mod Steps
 pub mod Tallies
+pub mod Arrays

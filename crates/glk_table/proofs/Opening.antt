@@ -1,4 +1,4 @@
--- The table at its start, and the first seat that is told of the keys.
+-- The table at its start, and the first seat that is given the keys.
 use Rattle.std.proofs.Common.{◌≡◌, ◌≢◌, ℕ, zero, suc, ◌+◌, ◌*◌, ◌<◌, List, [], ◌∷◌, ◌++◌, length, set, replicate, refl, sym, ap, ◌∙◌, subst, ⊎_elim, arith, length-append}
 use Rattle.std.proofs.lemmas.List.{set-get_or, get_or_append_left, get_or-append-add, get_or-replicate, length-replicate}
 use Rattle.std.specs.Prelude.{slice_index, Contains}
@@ -7,7 +7,7 @@ use lib.ListN.{get_elem?}
 use Rattle.atomic_table.specs.Table.{Me, step, keeps, Allows}
 use Rattle.atomic_table.proofs.Lists.{at_set}
 use Rattle.glk_table.specs.Keys.{IsLawful}
-use Rattle.glk_table.specs.Rule.{no_rank, opening_words, Fits, Rule, holds, fresh, first_view, Told}
+use Rattle.glk_table.specs.Rule.{no_rank, opening_words, Fits, Rule, holds, fresh_view, first_view, GivenKeys}
 use Rattle.glk_table.specs.declared.view.View.{View}
 use Rattle.glk_table.proofs.Folds.{all_at, all_same, add_left, sum_zero, without, without_else}
 use Rattle.glk_table.proofs.Members.{in_none}
@@ -70,7 +70,7 @@ module _ (size : ℕ) where
       at_first zero v e = subst (Fits size [] (opening_words size)) (some-injective _ _ e) (record {
         size_is = λ _. refl;
         keys_is = λ _. refl;
-        stands = λ p w m. absurd (in_none (p, w) m);
+        stays = λ p w m. absurd (in_none (p, w) m);
         placed = λ a p m. absurd (in_none (a, p) m);
         ranked = λ p r m. absurd (in_none (p, r) m);
         named = λ p r m. absurd (in_none (p, r) m);
@@ -97,26 +97,26 @@ module _ (size : ℕ) where
     spent_fits u zeroed f = record {
       size_is = λ h. absurd (omega arith);
       keys_is = λ h. absurd (omega arith);
-      stands = f.stands;
+      stays = f.stays;
       placed = λ a p m. let P : List (ℕ × ℕ) → Type 0 = λ l. Contains l (a, p) in absurd (in_none (a, p) (subst P (f.idle zeroed).0 m));
       ranked = f.ranked;
       named = f.named;
       idle = f.idle;
     }
 
-    fresh_fits : Fits size now ws (fresh size now)
+    fresh_fits : Fits size now ws (fresh_view size now)
     fresh_fits = record {
       size_is = λ _. refl;
       keys_is = λ _. refl;
-      stands = λ p w m. absurd (in_none (p, w) m);
+      stays = λ p w m. absurd (in_none (p, w) m);
       placed = λ a p m. absurd (in_none (a, p) m);
       ranked = λ p k m. absurd (in_none (p, k) m);
       named = λ p k m. absurd (in_none (p, k) m);
       idle = λ _. (refl, refl, refl);
     }
 
-    pub rule_tell : Rule size now ws (set vs id (fresh size now))
-    rule_tell = record {
+    pub rule_keys : Rule size now ws (set vs id (fresh_view size now))
+    rule_keys = record {
       lawful = lawful;
       room = room;
       long = r.long;
@@ -125,18 +125,18 @@ module _ (size : ℕ) where
         apart = λ p q hp hq fp fq e. let z = free p hp in absurd (omega arith);
         path = λ p h f. let z = free p h in absurd (omega arith);
       };
-      tallies = tallies_same size ws vs r.tallies id (first_view size) at ws (fresh size now) (λ _ _. refl) refl refl refl;
-      whole = all_same ◌+◌ 0 add_left refl (λ u. u.part) vs id (first_view size) (fresh size now) at refl ∙ r.whole;
+      tallies = tallies_same size ws vs r.tallies id (first_view size) at ws (fresh_view size now) (λ _ _. refl) refl refl refl;
+      whole = all_same ◌+◌ 0 add_left refl (λ u. u.part) vs id (first_view size) (fresh_view size now) at refl ∙ r.whole;
       fits = λ by u e.
           ⊎_elim
-          (λ (t : (by ≡ id) × (fresh size now ≡ u)). subst (Fits size now ws) t.1 fresh_fits)
+          (λ (t : (by ≡ id) × (fresh_view size now ≡ u)). subst (Fits size now ws) t.1 fresh_fits)
           (λ (t : (by ≢ id) × (get_elem? vs by ≡ some u)). spent_fits u (others_spent by u t.0 t.1) (r.fits by u t.1))
-          (at_set vs id by (fresh size now) u e);
+          (at_set vs id by (fresh_view size now) u e);
     }
 
-  pub tells : (id slots : ℕ) (me : Me (Unit {0}) View) (now : List (ℕ × ℕ)) → IsLawful now → length now < size → me.0 ≡ first_view size → Allows (holds size) slots id me 0 (λ n. n) (Told now (step slots 0 0 0 none) me)
-  tells id slots me now lawful room is s (ks, r) homes at bound =
+  pub gives_keys : (id slots : ℕ) (me : Me (Unit {0}) View) (now : List (ℕ × ℕ)) → IsLawful now → length now < size → me.0 ≡ first_view size → Allows (holds size) slots id me 0 (λ n. n) (GivenKeys now (step slots 0 0 0 none) me)
+  gives_keys id slots me now lawful room is s (ks, r) homes at bound =
       let at' : get_elem? s.views id ≡ some (first_view size) = at ∙ ap some is in
-      let rule = rule_tell ks now s.words s.views id r at' lawful room in
-      let P : List ℕ → Type 0 = λ l. Rule size now l (set s.views id (fresh size now)) in
-      (fresh size now, keeps, tt, (now, subst P (sym (set-get_or s.words 0 0)) rule), ap (λ (v : View). (fresh v.size now, me.1)) (sym is))
+      let rule = rule_keys ks now s.words s.views id r at' lawful room in
+      let P : List ℕ → Type 0 = λ l. Rule size now l (set s.views id (fresh_view size now)) in
+      (fresh_view size now, keeps, tt, (now, subst P (sym (set-get_or s.words 0 0)) rule), ap (λ (v : View). (fresh_view v.size now, me.1)) (sym is))

@@ -1,15 +1,15 @@
 -- The order of ranks is the order of class, size and id.
-use Rattle.std.proofs.Common.{◌≡◌, ℕ, ◌^◌, ◌<◌, ◌⊎◌, ⊎_elim, arith}
+use Rattle.std.proofs.Common.{◌≡◌, refl, ℕ, ◌^◌, ◌<◌, ◌⊎◌, ⊎_elim, arith}
 use Rattle.std.specs.Prelude.{◌↔◌}
-use Rattle.glk_table.specs.Ranks.{class_number, size_number, packed, rank_of, AreBefore, IsBefore, IsRankInOrder}
+use Rattle.glk_table.specs.Ranks.{class_number, size_number, packed_rank, rank_of, AreBefore, IsBefore, IsRankInOrder, RanksAreOrdered}
 use Rattle.glk_table.specs.declared.ranks.RankClass.{RankClass}
 use Rattle.glk_table.specs.declared.ranks.RankClass.TheVariants.{Strong, Shared, Other}
 
 module _ (c s i d t j : ℕ) (hs : s < 2 ^ 32) (ht : t < 2 ^ 32) (hi : i < 2 ^ 30) (hj : j < 2 ^ 30) where
-  packed_below : packed c s i < packed d t j → AreBefore c s i d t j
+  packed_below : packed_rank c s i < packed_rank d t j → AreBefore c s i d t j
   packed_below h = grind arith
 
-  packed_above : AreBefore c s i d t j → packed c s i < packed d t j
+  packed_above : AreBefore c s i d t j → packed_rank c s i < packed_rank d t j
   packed_above h =
       ⊎_elim (λ (x : c < d). omega arith)
       (λ (x : (c ≡ d) × ((s < t) ⊎ ((s ≡ t) × (i < j)))).
@@ -50,3 +50,24 @@ rank_in_order c s i hi =
 -- the rank of a strong definition is its id
 pub rank_of_strong : (s i : ℕ) → rank_of Strong s i ≡ i
 rank_of_strong s i = omega arith
+
+same_class : (c d : RankClass) → class_number c ≡ class_number d → c ≡ d
+same_class Strong Strong h = refl
+same_class Shared Shared h = refl
+same_class Other Other h = refl
+same_class Strong Shared h = absurd (omega (arith, h))
+same_class Strong Other h = absurd (omega (arith, h))
+same_class Shared Strong h = absurd (omega (arith, h))
+same_class Shared Other h = absurd (omega (arith, h))
+same_class Other Strong h = absurd (omega (arith, h))
+same_class Other Shared h = absurd (omega (arith, h))
+
+-- all ranks at once
+pub ranks_ordered : RanksAreOrdered
+ranks_ordered = record {
+  in_order = λ c d s i t j hi hj. rank_order c s i d t j hi hj;
+  apart = λ c d s i t j hi hj same.
+      let a = size_below c s in
+      let b = size_below d t in
+      (same_class c d (omega arith), omega arith);
+}

@@ -13,7 +13,7 @@ use Rattle.glk_table.specs.declared.view.View.{View}
 use Rattle.glk_table.specs.Keys.{key_of, hash_of}
 use Rattle.glk_table.proofs.Members.{cons_cases, here, there}
 use Rattle.glk_table.proofs.Pigeon.{pigeons}
-use Rattle.glk_table.proofs.Steps.{Passed}
+use Rattle.glk_table.specs.Probing.{Passed}
 
 sees_more : (p n : ℕ) (v : View) → SeesMore v (saw p n v)
 sees_more p zero v = record { size_is = refl; keys_is = refl; entered_is = refl; ranks_is = refl; strong_is = refl; part_is = refl; seen = λ q w m. m }

@@ -8,7 +8,8 @@ use lib.ListN.{get_elem?}
 use Rattle.atomic_table.specs.Table.{Me, step, keeps, Allows}
 use Rattle.atomic_table.proofs.Lists.{at_set, exchanged}
 use Rattle.glk_table.specs.Keys.{hash_of, key_of}
-use Rattle.glk_table.specs.Rule.{no_rank, rank_word, strong_word, id_word, key_in, probe, Places, Fits, Tallies, Rule, Knowing, Knows, holds, saw, standing, with_entered, with_rank, with_strong, Looked, Filled, Entered, Ranked, Strengthened}
+use Rattle.glk_table.specs.Rule.{no_rank, rank_word, strong_word, id_word, key_in, probe, Places, Fits, Tallies, Rule, Knowing, Knows, holds, saw, word_after, with_entered, with_rank, with_strong, Looked, Filled, Entered, Ranked, Strengthened}
+use Rattle.glk_table.specs.Probing.{Passed}
 use Rattle.glk_table.specs.declared.view.View.{View}
 use Rattle.glk_table.proofs.Folds.{all_same, add_left, set_at}
 use Rattle.glk_table.proofs.Members.{cons_cases}
@@ -34,14 +35,14 @@ fits_saw size ks ws p zero v h e f = f
 fits_saw size ks ws p (suc n) v h e f = record {
   size_is = f.size_is;
   keys_is = f.keys_is;
-  stands = λ q w m.
+  stays = λ q w m.
       ⊎_elim
       (λ (t : (p, suc n) ≡ (q, w)).
       let a : p ≡ q = ap (λ x. x.0) t in
       let b : suc n ≡ w = ap (λ x. x.1) t in
       let c : slice_index ws q ≡ suc n = sym (ap (slice_index ws) a) ∙ e in
       (omega arith, omega arith, c ∙ b))
-      (λ (t : Contains v.seen (q, w)). f.stands q w t)
+      (λ (t : Contains v.seen (q, w)). f.stays q w t)
       (cons_cases (p, suc n) v.seen (q, w) m);
   placed = f.placed;
   ranked = f.ranked;
@@ -84,13 +85,9 @@ knows size ks ws vs v r f part =
 knows_after : (size : ℕ) (ks : List (ℕ × ℕ)) (now : List ℕ) (vs : List View) (id : ℕ) (v w : View) → Rule size ks now (set vs id w) → get_elem? vs id ≡ some v → 0 < w.part → Knows w
 knows_after size ks now vs id v w r at part = knows size ks now (set vs id w) w r (r.fits id w (set_at vs id v w at)) part
 
-pub standing_some : (n new : ℕ) → n ≢ 0 → standing n new ≡ n
-standing_some zero new ne = absurd (ne refl)
-standing_some (suc n) new ne = refl
-
--- what has to be seen of the places before the j-th one of an id's path
-abbrev pub Passed : ℕ → List (ℕ × ℕ) → List (ℕ × ℕ) → ℕ → ℕ → Type 0
-Passed size ks seen id j = (i : ℕ) → i < j → (w : ℕ) × Contains seen (probe size (hash_of ks id) i, w) × (key_in ks w ≢ key_of ks id)
+pub word_after_some : (n new : ℕ) → n ≢ 0 → word_after n new ≡ n
+word_after_some zero new ne = absurd (ne refl)
+word_after_some (suc n) new ne = refl
 
 module _ (size : ℕ) (ks : List (ℕ × ℕ)) (ws : List ℕ) (vs : List View) (id : ℕ) (v : View) (r : Rule size ks ws vs) (at : get_elem? vs id ≡ some v) where
   some_place : 0 < size
@@ -113,7 +110,7 @@ module _ (size : ℕ) (ks : List (ℕ × ℕ)) (ws : List ℕ) (vs : List View) 
       let now = set ws p n in
       let room : p < length ws = let l = r.long in omega arith in
       let earlier : (i : ℕ) → i < j → (0 < slice_index ws (probe size (hash_of ks key) i)) × (key_in ks (slice_index ws (probe size (hash_of ks key) i)) ≢ key_of ks key) =
-      λ i lt. let m = passed i lt in let q = probe size (hash_of ks key) i in let s = f.stands q m.0 m.1 in
+      λ i lt. let m = passed i lt in let q = probe size (hash_of ks key) i in let s = f.stays q m.0 m.1 in
       (let a = s.1 in let b : slice_index ws q ≡ m.0 = s.2 in omega arith, λ e. m.2 (sym (ap (key_in ks) s.2) ∙ e)) in
       let grow = fill_grows size ks ws p key j some_place r.lawful r.places room is_id step place free earlier in
       kept size ks ws now vs id v (saw p n v) r at (length-set ws p n)
@@ -134,11 +131,11 @@ module _ (size : ℕ) (ks : List (ℕ × ℕ)) (ws : List ℕ) (vs : List View) 
   fits_enter p key w part is_id m same = let f = r.fits id v at in record {
     size_is = f.size_is;
     keys_is = f.keys_is;
-    stands = f.stands;
+    stays = f.stays;
     placed = λ a q k.
         ⊎_elim
         (λ (t : (key, p) ≡ (a, q)).
-        let s = f.stands p w m in
+        let s = f.stays p w m in
         let P : ℕ × ℕ → Type 0 = λ x. (x.0 < length ks) × (x.1 < size) × (0 < slice_index ws x.1) × (key_of ks x.0 ≡ key_in ks (slice_index ws x.1)) in
         subst P t (is_id, s.0, (let a = s.1 in let b : slice_index ws p ≡ w = s.2 in omega arith), sym same ∙ sym (ap (key_in ks) s.2)))
         (λ (t : Contains v.entered (a, q)). f.placed a q t)
@@ -157,7 +154,7 @@ module _ (size : ℕ) (ks : List (ℕ × ℕ)) (ws : List ℕ) (vs : List View) 
   fits_rank p k part low = let f = r.fits id v at in record {
     size_is = f.size_is;
     keys_is = f.keys_is;
-    stands = f.stands;
+    stays = f.stays;
     placed = f.placed;
     ranked = λ q n m.
         ⊎_elim
@@ -176,7 +173,7 @@ module _ (size : ℕ) (ks : List (ℕ × ℕ)) (ws : List ℕ) (vs : List View) 
   fits_strong p k part low = let f = r.fits id v at in record {
     size_is = f.size_is;
     keys_is = f.keys_is;
-    stands = f.stands;
+    stays = f.stays;
     placed = f.placed;
     ranked = f.ranked;
     named = λ q n m.
@@ -209,19 +206,19 @@ module _ (size id : ℕ) (me : Me (Unit {0}) View) (part : 0 < me.0.part) where
       → Allows (holds size) slots id me p (λ n. either (n == 0) (key + 1) n) (Filled (step slots p 0 (key + 1) none) me)
   fills slots p key j h is_id is_step place passed s (ks, r) homes at bound =
       let n = slice_index s.words p in
-      let w = saw p (standing n (key + 1)) v in
+      let w = saw p (word_after n (key + 1)) v in
       let same : v.keys ≡ ks = (r.fits id v at).keys_is part in
       let Q : List (ℕ × ℕ) → Type 0 = λ k. (key < length k) × (p ≡ probe size (hash_of k key) j) × Passed size k v.seen key j in
       let q : Q ks = subst Q same (is_id, place, passed) in
       let R : ℕ → Type 0 = λ x. Rule size ks (set s.words p x) (set s.views id w) in
       let rule : R (either (n == 0) (key + 1) n) =
       exchanged n 0 (key + 1) R
-      (λ e. let P : ℕ → Type 0 = λ k. Rule size ks (set s.words p (key + 1)) (set s.views id (saw p (standing k (key + 1)) v)) in
+      (λ e. let P : ℕ → Type 0 = λ k. Rule size ks (set s.words p (key + 1)) (set s.views id (saw p (word_after k (key + 1)) v)) in
       subst P (sym e) (rule_fill size ks s.words s.views id v r at p key j h e q.0 is_step q.1 q.2))
       (λ ne. let P : List ℕ → Type 0 = λ l. Rule size ks l (set s.views id (saw p n v)) in
       let S : ℕ → Type 0 = λ k. Rule size ks (set s.words p n) (set s.views id (saw p k v)) in
-      subst S (sym (standing_some n (key + 1) ne)) (subst P (sym (set-get_or s.words p 0)) (rule_look size ks s.words s.views id v r at p h))) in
-      (w, keeps, tt, (ks, rule), (refl, knows_after size ks (set s.words p (either (n == 0) (key + 1) n)) s.views id v w rule at (let e = saw_part p (standing n (key + 1)) v in omega arith)))
+      subst S (sym (word_after_some n (key + 1) ne)) (subst P (sym (set-get_or s.words p 0)) (rule_look size ks s.words s.views id v r at p h))) in
+      (w, keeps, tt, (ks, rule), (refl, knows_after size ks (set s.words p (either (n == 0) (key + 1) n)) s.views id v w rule at (let e = saw_part p (word_after n (key + 1)) v in omega arith)))
 
   -- a fetch_min of an id whose key fills the place
   pub enters : (slots i p key w : ℕ) → i ≡ 3 * size + p → v.size ≡ size → p < size → key < length v.keys → Contains v.seen (p, w) → key_in v.keys w ≡ key_of v.keys key
@@ -232,10 +229,10 @@ module _ (size id : ℕ) (me : Me (Unit {0}) View) (part : 0 < me.0.part) where
       let q : Q ks = subst Q same (is_id, key_is) in
       let u = with_entered key p v in
       let place : i - id_word v.size 0 ≡ p = omega arith in
-      let told : u ≡ with_entered key (i - id_word v.size 0) v = ap (λ k. with_entered key k v) (sym place) in
+      let given : u ≡ with_entered key (i - id_word v.size 0) v = ap (λ k. with_entered key k v) (sym place) in
       let P : ℕ → Type 0 = λ k. Rule size ks (set s.words k (min (slice_index s.words k) key)) (set s.views id u) in
       let rule : P i = subst P (sym is) (rule_enter size ks s.words s.views id v r at p key w h part q.0 seen q.1) in
-      (u, keeps, tt, (ks, rule), (ap (λ (x : View). (x, me.1)) told, knows_after size ks (set s.words i (min (slice_index s.words i) key)) s.views id v u rule at part))
+      (u, keeps, tt, (ks, rule), (ap (λ (x : View). (x, me.1)) given, knows_after size ks (set s.words i (min (slice_index s.words i) key)) s.views id v u rule at part))
 
   -- a fetch_min of a rank
   pub ranks : (slots i p k : ℕ) → i ≡ size + p → v.size ≡ size → p < size → k < no_rank → Allows (holds size) slots id me i (λ n. min n k) (Ranked (step slots i k 0 none) me)

@@ -1,7 +1,12 @@
 -- What a closed table answers.
-use Rattle.std.specs.Prelude.{◌≡◌, ℕ, ◌*◌, ◌^◌, ◌<◌, ◌≤◌, List, length, slice_index, Contains}
+use Rattle.std.specs.Prelude.{◌≡◌, ℕ, ◌+◌, ◌-◌, ◌*◌, ◌^◌, ◌<◌, ◌≤◌, min, List, length, slice_index, slice_index_or, Contains, false, Bool, nat_lt, Option, MatchOption}
+use Rattle.std.specs.Mem.Slots.{slots_len, IsFull}
+use Rattle.std.specs.declared.alloc.Global.{Global}
+use Rattle.atomic_table.specs.declared.owned.Closed.{Closed}
+use Rattle.glk_base.specs.declared.ids.SymId.{SymId}
 use Rattle.glk_table.specs.Keys.{key_of}
 use Rattle.glk_table.specs.Rule.{no_rank, rank_word, strong_word, id_word, least_at, least_id, greatest_at, OnePlaceEach}
+use Rattle.glk_table.specs.declared.elected.Arrays.{Arrays}
 use Rattle.glk_table.specs.declared.view.View.{View}
 
 -- the keys that the table was made with, the calls (id, place), the ranks (place, rank) and the strong ids (place, id)
@@ -15,7 +20,7 @@ pub record Election : Type 0 where
 abbrev pub election_of : View → Election
 election_of v = record { keys = v.keys; entered = v.entered; ranks = v.ranks; strong = v.strong }
 
--- the words hold the least and the greatest of what the view was told of all seats
+-- the words hold the least and the greatest of what the view has of all seats
 pub record Elects (v : View) (size : ℕ) (words : List ℕ) : Type 0 where
   pub small : size ≤ 2 ^ 26
   pub long : length words ≡ 4 * size
@@ -26,6 +31,49 @@ pub record Elects (v : View) (size : ℕ) (words : List ℕ) : Type 0 where
   pub ranks : (p : ℕ) → p < size → slice_index words (rank_word size p) ≡ least_at p v.ranks
   pub strong : (p : ℕ) → p < size → slice_index words (strong_word size p) ≡ greatest_at p v.strong
   pub calls : OnePlaceEach v.keys v.entered
+
+-- n items, each made of a word, from one of the words on
+pub record AreMade {X : Type 0} (f : ℕ → X) (words : List ℕ) (from n : ℕ) (d : X) (xs : List X) : Type 0 where
+  pub long : length xs ≡ n
+  pub each : (p : ℕ) → p < n → slice_index_or xs p d ≡ f (slice_index words (from + p))
+
+-- an id's word, and a strong id's, in 32 bits
+abbrev pub id_in_word : ℕ → ℕ
+id_in_word w = min w (2 ^ 32 - 1)
+
+abbrev pub strong_in_word : ℕ → ℕ
+strong_in_word w = min (w - 1) (2 ^ 32 - 1)
+
+-- the items are the keys, the ranks and the strong ids of a closed table with these words, and where it has strong ids
+abbrev pub AreKeys : ℕ → List ℕ → List ℕ → Type 0
+AreKeys size words xs = AreMade id_in_word words (3 * size) size 0 xs
+
+abbrev pub AreRanks : ℕ → List ℕ → List ℕ → Type 0
+AreRanks size words xs = AreMade (λ w. w) words size size 0 xs
+
+abbrev pub AreStrong : ℕ → List ℕ → List ℕ → Type 0
+AreStrong size words xs = AreMade strong_in_word words (2 * size) size 0 xs
+
+abbrev pub HaveStrong : ℕ → List ℕ → List Bool → Type 0
+HaveStrong size words xs = AreMade (nat_lt 0) words (2 * size) size false xs
+
+-- the arrays are made of the words
+pub record AreArrays (size : ℕ) (words : List ℕ) (a : Arrays) : Type 0 where
+  pub keys : AreKeys size words a.keys.items
+  pub ranks : AreRanks size words a.ranks.items
+  pub strong : AreStrong size words a.strong.items
+  pub has_strong : HaveStrong size words a.has_strong.items
+
+-- the arrays are those of a closed table with this view
+pub record IsElected (v : View) (a : Arrays) : Type 0 where
+  pub size : ℕ
+  pub words : List ℕ
+  pub elects : Elects v size words
+  pub arrays : AreArrays size words a
+
+-- the words of a closed table of this size
+abbrev pub HasWords : Closed (Unit {0}) Global → ℕ → Type 0
+HasWords closed size = IsFull closed.words × (slots_len closed.words ≡ 4 * size) × (size ≤ 2 ^ 26)
 
 -- the least id that was entered at the place
 pub record IsLeastId (entered : List (ℕ × ℕ)) (p id : ℕ) : Type 0 where
@@ -50,3 +98,11 @@ pub record IsGreatestId (strong : List (ℕ × ℕ)) (p id : ℕ) : Type 0 where
 -- nothing was offered at the place
 abbrev pub HasNone : List (ℕ × ℕ) → ℕ → Type 0
 HasNone xs p = (r : ℕ) → Contains xs (p, r) → ⊥
+
+-- the least rank that was offered at the place, if any was
+abbrev pub IsLeast : Election → ℕ → Option ℕ → Type 0
+IsLeast e p rank = MatchOption rank (HasNone e.ranks p) (λ r. IsLeastRank e.ranks p r)
+
+-- the greatest strong id that was offered at the place, if any was
+abbrev pub IsGreatestStrong : Election → ℕ → Option SymId → Type 0
+IsGreatestStrong e p strong = MatchOption strong (HasNone e.strong p) (λ id. IsGreatestId e.strong p id.0)

@@ -1,6 +1,6 @@
 pub mod Elections
 pub mod Keys
-pub mod Naming
+pub mod Probing
 pub mod Ranks
 pub mod Rule
 pub mod Seats

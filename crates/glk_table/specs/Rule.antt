@@ -1,4 +1,4 @@
--- The rule of a table, and what each step tells its seat.
+-- The rule of a table, and what each step reports to its seat.
 use Rattle.std.specs.Prelude.{◌≡◌, ◌≢◌, ℕ, zero, suc, ◌+◌, ◌-◌, ◌*◌, ◌/◌, ◌%◌, ◌^◌, ◌<◌, ◌≤◌, ◌==◌, min, max, List, [], ◌∷◌, ◌++◌, length, replicate, slice_index, Contains, if◌then◌else◌}
 use mathlib.Core.Option.{some}
 use lib.ListN.{get_elem?}
@@ -75,16 +75,16 @@ pub record Places (size : ℕ) (ks : List (ℕ × ℕ)) (words : List ℕ) : Typ
   pub named : (p : ℕ) → p < size → slice_index words (name_word size p) ≤ length ks
   pub apart : (p q : ℕ) → p < size → q < size → 0 < slice_index words (name_word size p) → 0 < slice_index words (name_word size q)
       → key_in ks (slice_index words (name_word size p)) ≡ key_in ks (slice_index words (name_word size q)) → p ≡ q
-  -- 2. the place of a filled word is on its id's probe path, behind places that are filled with other keys
+  -- 2. the place of a filled word is on its id's probe path, after places that are filled with other keys
   pub path : (p : ℕ) → p < size → 0 < slice_index words (name_word size p) → OnPath size ks words (slice_index words (name_word size p)) p
 
 -- what one view and the words have to do with each other
 pub record Fits (size : ℕ) (ks : List (ℕ × ℕ)) (words : List ℕ) (v : View) : Type 0 where
-  -- 3. a filled word that the view has seen still stands
-  pub stands : (p w : ℕ) → Contains v.seen (p, w) → (p < size) × (0 < w) × (slice_index words (name_word size p) ≡ w)
+  -- 3. a filled word that the view has seen stays
+  pub stays : (p w : ℕ) → Contains v.seen (p, w) → (p < size) × (0 < w) × (slice_index words (name_word size p) ≡ w)
   -- 4. at the place of each call the word names an id of the same key
   pub placed : (id p : ℕ) → Contains v.entered (id, p) → (id < length ks) × (p < size) × (0 < slice_index words (name_word size p)) × (key_of ks id ≡ key_in ks (slice_index words (name_word size p)))
-  -- offered ranks and strong ids are numbers that the words can tell from none
+  -- offered ranks and strong ids are numbers that differ from the words of none
   pub ranked : (p r : ℕ) → Contains v.ranks (p, r) → r < no_rank
   pub named : (p a : ℕ) → Contains v.strong (p, a) → a < 2 ^ 32
   -- 6. a view has the table's size and keys while it has a part; a spent one has no calls and no offers
@@ -117,19 +117,19 @@ abbrev pub holds : ℕ → State (Unit {0}) View → Type 0
 holds size s = (ks : List (ℕ × ℕ)) × Rule size ks s.words s.views
 
 -- the view with the whole part that has done nothing
-abbrev pub fresh : ℕ → List (ℕ × ℕ) → View
-fresh size ks = record { size = size; keys = ks; seen = []; entered = []; ranks = []; strong = []; part = 2 ^ 32 }
+abbrev pub fresh_view : ℕ → List (ℕ × ℕ) → View
+fresh_view size ks = record { size = size; keys = ks; seen = []; entered = []; ranks = []; strong = []; part = 2 ^ 32 }
 
--- the first view, which was not told of the keys yet
+-- the first view, which does not know the keys yet
 abbrev pub first_view : ℕ → View
-first_view size = fresh size []
+first_view size = fresh_view size []
 
 -- ids of one key are at one place, and ids of different keys at different places
 pub record OnePlaceEach (ks entered : List (ℕ × ℕ)) : Type 0 where
   pub one_place : (a p b q : ℕ) → Contains entered (a, p) → Contains entered (b, q) → key_of ks a ≡ key_of ks b → p ≡ q
   pub one_key : (a p b q : ℕ) → Contains entered (a, p) → Contains entered (b, q) → p ≡ q → key_of ks a ≡ key_of ks b
 
--- what the rule tells of one view by itself, with no word
+-- what follows from the rule for one view by itself, with no word
 pub record Knowing (size : ℕ) (ks : List (ℕ × ℕ)) (v : View) : Type 0 where
   pub room : length ks < size
   pub seen : (p w : ℕ) → Contains v.seen (p, w) → (p < size) × (0 < w) × (w ≤ length ks)
@@ -140,7 +140,7 @@ pub record Knowing (size : ℕ) (ks : List (ℕ × ℕ)) (v : View) : Type 0 whe
 abbrev pub Knows : View → Type 0
 Knows v = Knowing v.size v.keys v
 
--- Each step on one word, with what its seat is told. `s` is the step, `v` the seat before, n the word found and `w` the seat after.
+-- Each step on one word, with what it reports to its seat. `s` is the step, `v` the seat before, n the word found and `w` the seat after.
 
 -- the view with one more filled word seen
 abbrev pub saw : ℕ → ℕ → View → View
@@ -152,13 +152,13 @@ abbrev pub Looked : Step (Unit {0}) → Me (Unit {0}) View → ℕ → Me (Unit 
 Looked s v n w = (w ≡ (saw s.word n v.0, v.1)) × Knows w.0
 
 -- the word after a compare-exchange of 0
-abbrev pub standing : ℕ → ℕ → ℕ
-standing zero new = new
-standing (suc n) new = suc n
+abbrev pub word_after : ℕ → ℕ → ℕ
+word_after zero new = new
+word_after (suc n) new = suc n
 
--- a compare-exchange of 0 by a name at a probe place: the word that stands there then is seen
+-- a compare-exchange of 0 by a name at a probe place: the word that is there then is seen
 abbrev pub Filled : Step (Unit {0}) → Me (Unit {0}) View → ℕ → Me (Unit {0}) View → Type 0
-Filled s v n w = (w ≡ (saw s.word (standing n s.second) v.0, v.1)) × Knows w.0
+Filled s v n w = (w ≡ (saw s.word (word_after n s.second) v.0, v.1)) × Knows w.0
 
 -- the view with one more call
 abbrev pub with_entered : ℕ → ℕ → View → View
@@ -184,9 +184,9 @@ with_strong p id v = record { size = v.size; keys = v.keys; seen = v.seen; enter
 abbrev pub Strengthened : Step (Unit {0}) → Me (Unit {0}) View → ℕ → Me (Unit {0}) View → Type 0
 Strengthened s v n w = w ≡ (with_strong (s.word - strong_word v.0.size 0) (s.first - 1) v.0, v.1)
 
--- a load before the table is shared: the first seat is told of the keys
-abbrev pub Told : List (ℕ × ℕ) → Step (Unit {0}) → Me (Unit {0}) View → ℕ → Me (Unit {0}) View → Type 0
-Told ks s v n w = w ≡ (fresh v.0.size ks, v.1)
+-- a load before the table is shared: the first seat is given the keys
+abbrev pub GivenKeys : List (ℕ × ℕ) → Step (Unit {0}) → Me (Unit {0}) View → ℕ → Me (Unit {0}) View → Type 0
+GivenKeys ks s v n w = w ≡ (fresh_view v.0.size ks, v.1)
 
 -- A fork: the lent seat keeps its calls, and half of the part, rounded down, goes to a seat with none.
 

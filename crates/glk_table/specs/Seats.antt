@@ -2,6 +2,7 @@
 use Rattle.std.specs.Prelude.{◌≡◌, ℕ, ◌*◌, ◌^◌, ◌<◌, ◌≤◌, List, [], ◌∷◌, Contains}
 use Rattle.std.specs.Prelude.{Option}
 use Rattle.std.specs.Option.{option_map_or}
+use Rattle.std.specs.Int.{IsPowerOfTwo}
 use Rattle.atomic_table.specs.Seated.{TableId}
 use Rattle.atomic_table.specs.declared.shared.Seat.{Seat}
 use Rattle.glk_base.specs.declared.ids.SymId.{SymId}
@@ -23,6 +24,13 @@ pub record IsSized (size key : ℕ) (id : TableId) : Type 0 where
   pub slotless : id.slots ≡ 0
   pub some : 0 < size
   pub small : size ≤ 2 ^ 26
+  pub power : IsPowerOfTwo size
+
+-- the least power of two that is not below a number
+pub record IsLeastPower (n power : ℕ) : Type 0 where
+  pub is_power : IsPowerOfTwo power
+  pub is_enough : n ≤ power
+  pub is_least : (m : ℕ) → IsPowerOfTwo m → n ≤ m → power ≤ m
 
 -- the seat is of the table, and is not spent
 pub record IsSeatOf (t : TableFacts) (s : Seat (Unit {0}) View) : Type 0 where

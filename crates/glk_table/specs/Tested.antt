@@ -1,26 +1,23 @@
--- What the tests speak of: keys that are numbers, and places that were filled.
-use Rattle.std.specs.Prelude.{◌≡◌, ℕ, ◌%◌, ◌<◌, List, map, slice_index, Contains}
-use Rattle.glk_table.specs.Seats.{HasPlace}
-use Rattle.glk_table.specs.declared.view.View.{View}
+-- What the tests speak of: keys that are numbers. One key, one hash.
+use Rattle.std.proofs.Common.{◌≡◌, ℕ, zero, suc, ◌%◌, ◌<◌, List, [], ◌∷◌, length, map, sym, ap, ◌∙◌, refl, arith}
+use Rattle.std.specs.Prelude.{slice_index_or}
+use Rattle.glk_table.specs.Keys.{hash_of, key_of, IsLawful}
 
 -- ids whose key is a number, and whose hash is the rest of that number
-abbrev pub named : ℕ → List ℕ → List (ℕ × ℕ)
-named hashes names = map (λ n. (n % hashes, n)) names
+abbrev pub numbered_keys : ℕ → List ℕ → List (ℕ × ℕ)
+numbered_keys hashes names = map (λ n. (n % hashes, n)) names
 
--- the second view has the calls of the first, and calls that gave each of the first n places
-pub record Fills (v w : View) (places : List ℕ) (n : ℕ) : Type 0 where
-  pub keys_is : w.keys ≡ v.keys
-  pub part_is : w.part ≡ v.part
-  pub old : (x : ℕ × ℕ) → Contains v.entered x → Contains w.entered x
-  pub new : (i : ℕ) → i < n → HasPlace w.entered (slice_index places i)
+key_at : (h : ℕ) (names : List ℕ) (id : ℕ) → id < length (numbered_keys h names) → slice_index_or (numbered_keys h names) id (0, 0) ≡ (slice_index_or names id 0 % h, slice_index_or names id 0)
+key_at h [] id lt = absurd (omega arith)
+key_at h (x ∷ xs) zero lt = refl
+key_at h (x ∷ xs) (suc id) lt = key_at h xs id (omega arith)
 
--- the same of one place
-pub record FillsOne (v w : View) (place : ℕ) : Type 0 where
-  pub keys_is : w.keys ≡ v.keys
-  pub part_is : w.part ≡ v.part
-  pub old : (x : ℕ × ℕ) → Contains v.entered x → Contains w.entered x
-  pub new : HasPlace w.entered place
+hash_is : (h : ℕ) (names : List ℕ) (id : ℕ) → id < length (numbered_keys h names) → hash_of (numbered_keys h names) id ≡ slice_index_or names id 0 % h
+hash_is h names id lt = ap (λ x. x.0) (key_at h names id lt)
 
--- calls gave each of the first n places
-pub record HasPlaces (entered : List (ℕ × ℕ)) (places : List ℕ) (n : ℕ) : Type 0 where
-  pub each : (i : ℕ) → i < n → HasPlace entered (slice_index places i)
+key_is : (h : ℕ) (names : List ℕ) (id : ℕ) → id < length (numbered_keys h names) → key_of (numbered_keys h names) id ≡ slice_index_or names id 0
+key_is h names id lt = ap (λ x. x.1) (key_at h names id lt)
+
+pub numbered_lawful : (h : ℕ) (names : List ℕ) → IsLawful (numbered_keys h names)
+numbered_lawful h names a b ha hb e =
+    hash_is h names a ha ∙ (ap (λ n. n % h) (sym (key_is h names a ha) ∙ (e ∙ key_is h names b hb)) ∙ sym (hash_is h names b hb))

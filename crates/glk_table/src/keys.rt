@@ -1,4 +1,4 @@
-// What the table is told of its ids.
+// The ids of a table.
 ghost use Rattle.std.specs.Prelude.{◌≡◌, ℕ, ◌<◌, ◌↔◌, List, length, IsTrue};
 ghost use Rattle.glk_table.specs.Keys.{hash_of, key_of, IsLawful};
 

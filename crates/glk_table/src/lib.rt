@@ -3,8 +3,6 @@
 #![tactic(auto)]
 
 mod elected;
-#[cfg(test)]
-mod fill;
 mod keys;
 mod layout;
 mod place;
@@ -18,5 +16,5 @@ mod view;
 pub use elected::Elected;
 pub use keys::Keys;
 pub use place::Place;
-pub use ranks::{RankClass, rank, rank_id};
+pub use ranks::{RankClass, rank, rank_id, ranks_are_ordered};
 pub use table::{KeySeat, KeyTable};

@@ -1,14 +1,14 @@
 // The place of a key.
-ghost use Rattle.std.specs.Prelude.{◌≡◌, ℕ};
+ghost use Rattle.std.specs.Prelude.{◌≡◌, ◌<◌, ◌^◌, ℕ};
 
 use std::marker::Model;
 
 /// The place of a key in a table, seen by contracts as its number. Every id of a key has the same
-/// place. Its number may differ between runs. The default stands where no place is known yet: no
-/// call takes a place that no `enter` gave.
+/// place. Its number may differ between runs. The default is for where no place is known yet: no
+/// call takes a place that no `enter` gave. It takes 4 bytes.
 #[derive(Clone, Copy, Default)]
 pub struct Place {
-    at: usize,
+    at: u32,
 }
 
 impl Model for Place {
@@ -21,14 +21,15 @@ impl Model for Place {
 
 impl Place {
     pub(crate) fn new(at: usize) -> Place
+        requires { at < 2 ^ 32 }
         ensures { result ≡ at }
     {
-        Place { at }
+        Place { at: at as u32 }
     }
 
     pub(crate) fn number(self) -> usize
         ensures { result ≡ self }
     {
-        self.at
+        self.at as usize
     }
 }

@@ -1,5 +1,5 @@
-// The rule of the table, and what each step tells its seat. There are seven kinds of step: a load
-// (`Look`, and `Tell` before the table is shared), a compare-exchange (`Fill`), a fetch-min of an
+// The rule of the table, and what each step reports to its seat. There are seven kinds of step: a load
+// (`Look`, and `GiveKeys` before the table is shared), a compare-exchange (`Fill`), a fetch-min of an
 // id (`Enter`), a fetch-min of a rank (`Rank`), a fetch-max (`Strong`), a split and a join (`Halve`).
 ghost use Rattle.std.specs.Prelude.{ℕ, List, []};
 
@@ -7,7 +7,7 @@ use super::view::View;
 use atomic_table::{Join, Play, Split, TableRule};
 use std::marker::{Brand, PhantomData};
 
-/// What holds of the words and of all views between any two steps.
+// What holds of the words and of all views between any two steps.
 pub struct Ruled;
 
 impl TableRule<(), View, usize> for Ruled {
@@ -18,7 +18,7 @@ impl TableRule<(), View, usize> for Ruled {
     ghost first = { first_view };
 }
 
-/// A load of a probe place.
+// A load of a probe place.
 pub(crate) struct Look;
 
 impl Play<(), View> for Look {
@@ -27,7 +27,7 @@ impl Play<(), View> for Look {
     ghost then = { Looked };
 }
 
-/// A compare-exchange of 0 by one more than an id, at a probe place.
+// A compare-exchange of 0 by one more than an id, at a probe place.
 pub(crate) struct Fill;
 
 impl Play<(), View> for Fill {
@@ -36,7 +36,7 @@ impl Play<(), View> for Fill {
     ghost then = { Filled };
 }
 
-/// A fetch-min of an id at its key's place. From here on the call of `enter` counts.
+// A fetch-min of an id at its key's place. From here on the call of `enter` counts.
 pub(crate) struct Enter;
 
 impl Play<(), View> for Enter {
@@ -45,7 +45,7 @@ impl Play<(), View> for Enter {
     ghost then = { Entered };
 }
 
-/// A fetch-min of a rank.
+// A fetch-min of a rank.
 pub(crate) struct Rank;
 
 impl Play<(), View> for Rank {
@@ -54,7 +54,7 @@ impl Play<(), View> for Rank {
     ghost then = { Ranked };
 }
 
-/// A fetch-max of one more than a strong id.
+// A fetch-max of one more than a strong id.
 pub(crate) struct Strong;
 
 impl Play<(), View> for Strong {
@@ -63,7 +63,7 @@ impl Play<(), View> for Strong {
     ghost then = { Strengthened };
 }
 
-/// A list of keys, for contracts alone.
+// A list of keys, for contracts alone.
 pub(crate) trait Naming {
     ghost keys: { List (ℕ × ℕ) };
 }
@@ -72,18 +72,18 @@ impl Naming for Brand {
     ghost keys = { [] };
 }
 
-/// A load that tells the first seat the list of keys, which the rule doesn't know before.
-pub(crate) struct Tell<L> {
+// A load that gives the first seat the list of keys, which the rule doesn't know before.
+pub(crate) struct GiveKeys<L> {
     of: PhantomData<L>,
 }
 
-impl<L: Naming> Play<(), View> for Tell<L> {
-    ghost use Rattle.glk_table.specs.Rule.{Told};
+impl<L: Naming> Play<(), View> for GiveKeys<L> {
+    ghost use Rattle.glk_table.specs.Rule.{GivenKeys};
 
-    ghost then = { Told L.keys };
+    ghost then = { GivenKeys L.keys };
 }
 
-/// A split of a seat's part in halves, and a join of two seats.
+// A split of a seat's part in halves, and a join of two seats.
 pub(crate) struct Halve;
 
 impl Split<View> for Halve {

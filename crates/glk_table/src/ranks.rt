@@ -1,6 +1,6 @@
 // The ranks by which the definition of a key is chosen.
 ghost use Rattle.std.specs.Prelude.{◌≡◌, ◌<◌, ◌^◌};
-ghost use Rattle.glk_table.specs.Ranks.{rank_of, id_in, IsRankInOrder};
+ghost use Rattle.glk_table.specs.Ranks.{rank_of, id_in, IsRankInOrder, RanksAreOrdered};
 ghost use Rattle.glk_table.specs.declared.ranks.RankClass.TheVariants.{Strong as strong_class};
 
 use glk_base::SymId;
@@ -43,3 +43,8 @@ pub fn rank_id(rank: u64) -> SymId
 {
     SymId((rank % SIZE_UNIT) as u32)
 }
+
+/// Ranks are in the order of the definitions: a law over all ranks, which costs nothing.
+pub fn ranks_are_ordered()
+    ensures { RanksAreOrdered }
+{}

@@ -1,13 +1,13 @@
 // The shared words, and the calls on them.
-ghost use Rattle.std.specs.Prelude.{◌≡◌, ℕ, ◌+◌, ◌*◌, ◌^◌, ◌<◌, ◌≤◌, ◌≢◌, List, length, Contains, IfOk};
-ghost use Rattle.glk_table.specs.Keys.{key_of, hash_of, IsLawful};
-ghost use Rattle.glk_table.specs.Rule.{no_rank, opening_words, key_in, probe, fresh, first_view, with_strong, kept_half, given_half, both_views, OnePlaceEach, Knows};
-ghost use Rattle.glk_table.specs.Seats.{EntersAt, HasPlace, IsSeatOf, Offers, SeesMore, view_of};
+ghost use Rattle.std.specs.Prelude.{◌≡◌, ℕ, ◌*◌, ◌^◌, ◌<◌, ◌≤◌, List, length, IfOk};
+ghost use Rattle.glk_table.specs.Rule.{no_rank, opening_words, fresh_view, with_strong, kept_half, given_half, both_views, OnePlaceEach, Knows};
+ghost use Rattle.glk_table.specs.Seats.{EntersAt, HasPlace, IsLeastPower, IsSeatOf, Offers, SeesMore, view_of};
+ghost use Rattle.glk_table.specs.Probing.{GainsKeys, HasFound, HasPassed, HasSeen, IsFirstSeat, IsStepOf};
 
 use super::keys::Keys;
 use super::layout::{NO_RANK, WORDS_PER_PLACE, id_index, rank_index, strong_index};
 use super::place::Place;
-use super::plays::{Enter, Fill, Halve, Look, Naming, Rank, Ruled, Strong, Tell};
+use super::plays::{Enter, Fill, GiveKeys, Halve, Look, Naming, Rank, Ruled, Strong};
 use super::view::View;
 use atomic_table::{Seat, Shared, Table};
 use glk_base::{OutOfMemory, SymId};
@@ -56,21 +56,30 @@ fn first_words(alloc: Global, size: usize) -> Result<Vec<u64>, OutOfMemory>
     Ok(words)
 }
 
-// Tells the first seat the keys, by a load of the first word.
-fn tell<L: Naming, K: Keys>(shared: &Shared<(), View, usize, Ruled>, seat: &mut KeySeat, _keys: &K)
-    requires seat { (seat.old.table_id ≡ shared.now.table_id) × (0 < shared.now.table_id.words) × (seat.old.me.0 ≡ first_view shared.now.key) }
+// Gives the first seat the keys, by a load of the first word.
+fn give_keys<L: Naming, K: Keys>(
+    shared: &Shared<(), View, usize, Ruled>,
+    seat: &mut KeySeat,
+    _keys: &K,
+)
+    requires seat { IsFirstSeat shared.now.table_id shared.now.key seat.old }
     requires keys { (K.list _keys.now ≡ L.keys) × (length L.keys < shared.now.key) }
-    ensures { (seat.new.table_id ≡ seat.old.table_id) × (seat.new.me ≡ (fresh shared.now.key L.keys, seat.old.me.1)) }
+    ensures { GainsKeys shared.now.key L.keys seat.old seat.new }
 {
-    shared.load::<Tell<L>>(seat, 0);
+    shared.load::<GiveKeys<L>>(seat, 0);
 }
 
 impl KeyTable {
     /// A table for these keys, with no id entered, and the seat that has the whole part of it. It
     /// takes 4c words, and as many again until it returns.
+    ///
+    /// # Errors
+    /// Out of memory.
     pub fn new<K: Keys>(alloc: Global, keys: &K) -> Result<(KeyTable, KeySeat), OutOfMemory>
         requires { length (K.list keys.now) ≤ 2 ^ 24 }
-        ensures { IfOk result (λ t. IsSeatOf t.0 t.1 × (view_of t.1 ≡ fresh t.0.size (K.list keys.now))) }
+        ensures seat { IfOk result (λ t. IsSeatOf t.0 t.1) }
+        ensures view { IfOk result (λ t. view_of t.1 ≡ fresh_view t.0.size (K.list keys.now)) }
+        ensures size { IfOk result (λ t. IsLeastPower (2 * length (K.list keys.now)) t.0.size) }
     {
         let size = (2 * keys.len() as usize).next_power_of_two();
         let words = first_words(alloc, size)?;
@@ -79,18 +88,18 @@ impl KeyTable {
             words.as_slice(),
             &size,
         )?;
-        tell::<Brand, K>(&table.shared, &mut seat, keys);
+        give_keys::<Brand, K>(&table.shared, &mut seat, keys);
         Ok((KeyTable { table, size }, seat))
     }
 
-    // The word at a place of the probe path of `id`, which `id` fills where nothing did.
+    // The word at a place of the probe path of `id`, which is filled with `id` where it is free.
     fn probe(&self, seat: &mut KeySeat, id: u32, step: usize, at: usize) -> u64
         requires seat { IsSeatOf self.now seat.old }
         requires id { id < length (view_of seat.old).keys }
-        requires place { (step < self.now.size) × (at ≡ probe self.now.size (hash_of (view_of seat.old).keys id) step) }
-        requires earlier { (i : ℕ) → i < step → (w : ℕ) × Contains (view_of seat.old).seen (probe self.now.size (hash_of (view_of seat.old).keys id) i, w) × (key_in (view_of seat.old).keys w ≢ key_of (view_of seat.old).keys id) }
+        requires place { IsStepOf self.now.size (view_of seat.old) id step at }
+        requires earlier { HasPassed self.now.size (view_of seat.old) id step }
         ensures seat { IsSeatOf self.now seat.new × SeesMore (view_of seat.old) (view_of seat.new) }
-        ensures word { (0 < result) × (result ≤ length (view_of seat.old).keys) × Contains (view_of seat.new).seen (at, result) }
+        ensures word { HasSeen (view_of seat.old).keys (view_of seat.new) at result }
         ensures knows { Knows (view_of seat.new) }
     {
         let word = self.table.shared.load::<Look>(seat, at);
@@ -105,10 +114,10 @@ impl KeyTable {
     }
 
     // Counts the call of `enter`, once the seat has seen the place filled with an id of this key.
-    fn settle(&self, seat: &mut KeySeat, id: u32, at: usize, word: u64)
+    fn count_call(&self, seat: &mut KeySeat, id: u32, at: usize, word: u64)
         requires seat { IsSeatOf self.now seat.old }
         requires id { id < length (view_of seat.old).keys }
-        requires place { (at < self.now.size) × Contains (view_of seat.old).seen (at, word) × (key_in (view_of seat.old).keys word ≡ key_of (view_of seat.old).keys id) }
+        requires place { HasFound self.now.size (view_of seat.old) id at word }
         ensures seat { IsSeatOf self.now seat.new }
         ensures entered { EntersAt (view_of seat.old) id at (view_of seat.new) }
         ensures knows { Knows (view_of seat.new) }
@@ -118,8 +127,8 @@ impl KeyTable {
         self.table.shared.fetch_min::<Enter>(seat, index, id as u64);
     }
 
-    /// The one place of the key of `id`: the same at each call for an id of this key, with whatever
-    /// seat, and no other key's. It takes at most c probes.
+    /// The place of the key of `id`. In all calls that the seat's view holds, ids of one key have
+    /// one place, and ids of different keys have different places.
     pub fn enter<K: Keys>(&self, seat: &mut KeySeat, keys: &K, id: u32) -> Place
         requires seat { IsSeatOf self.now seat.old }
         requires keys { K.list keys.now ≡ (view_of seat.old).keys }
@@ -128,12 +137,13 @@ impl KeyTable {
         ensures entered { EntersAt (view_of seat.old) id result (view_of seat.new) }
         ensures places { OnePlaceEach (view_of seat.new).keys (view_of seat.new).entered }
     {
-        let start = (keys.hash(id) % self.size as u64) as usize;
+        let mask = self.size - 1;
+        let start = keys.hash(id) as usize & mask;
         for step in 0..self.size {
-            let at = (start + step) % self.size;
+            let at = (start + step) & mask;
             let word = self.probe(seat, id, step, at);
             if keys.same((word - 1) as u32, id) {
-                self.settle(seat, id, at, word);
+                self.count_call(seat, id, at, word);
                 return Place::new(at);
             }
         }

@@ -1,2 +1,5 @@
-pub mod Made
-pub mod Dumped
+pub mod ArchiveLimits
+pub mod Sections
+pub mod MustAnswers
+pub mod MkobjSteps
+pub mod DumpSteps

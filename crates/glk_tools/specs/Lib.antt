@@ -1,2 +1,6 @@
-pub mod Making
-pub mod Dumping
+pub mod TextArchive
+pub mod PackageText
+pub mod MustAnswer
+pub mod Stdout
+pub mod Mkobj
+pub mod Dump

@@ -1,7 +1,20 @@
-// What holds of all files: a law of the definitions, which costs nothing when it runs.
-ghost use Rattle.glk_tools.specs.Dumping.{IsOneDump};
+// What holds of all files: laws of the definitions, which are proved with these functions and cost
+// nothing when they run.
+ghost use Rattle.glk_tools.specs.Dump.{IsOneDump};
+ghost use Rattle.glk_tools.specs.Mkobj.{IsOneArchive};
+ghost use Rattle.glk_tools.specs.PackageText.{IsOneText};
 
-/// A file has one text, or one first fault, and not both.
+/// A package file has one text, or one first fault, and not both.
+pub fn one_text()
+    ensures { IsOneText }
+{}
+
+/// The text at a path gives one archive, or one first refusal, and not both.
+pub fn one_archive()
+    ensures { IsOneArchive }
+{}
+
+/// The package file at a path gives one text, or one first refusal, and not both.
 pub fn one_dump()
     ensures { IsOneDump }
 {}

@@ -1,3 +1,3 @@
-pub mod Methodoffs
-mod Targets
-mod Varints
+mod FaultLemmas
+mod MethodLemmas
+mod TargetLemmas

@@ -1,4 +1,4 @@
--- Where the parts of type data stand, as Go's internal/abi lays them out on 64 bits. Each place is
+-- Where the parts of type data are, as Go's internal/abi lays them out on 64 bits. Each offset is
 -- counted in bytes from the start of its own part; names are Go's.
 use Rattle.std.specs.Prelude.{ℕ, ◌==◌, if◌then◌else◌}
 
@@ -40,7 +40,7 @@ pub record UncommonType : Type 0 where
   pub moff : ℕ
   pub bytes : ℕ
 
--- the uncommon part: how many methods there are, and how far from the part's start their entries stand
+-- the uncommon part: how many methods there are, and how far from its start their entries are
 abbrev pub abi_uncommon_type : UncommonType
 abi_uncommon_type = record {
   pkg_path = 0;
@@ -120,7 +120,7 @@ abi_kind = record {
 abbrev pub kind_mask : ℕ
 kind_mask = 31
 
--- bits of the byte tflag: an uncommon part follows; the string has a star in front that is not the type's
+-- bits of the byte tflag: an uncommon part follows; the first byte of the string is a star that is not the type's
 abbrev pub uncommon_bit : ℕ
 uncommon_bit = 0
 

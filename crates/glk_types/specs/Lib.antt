@@ -1,6 +1,8 @@
 pub mod Abi
-pub mod Places
-pub mod Varint
+pub mod Targets
 pub mod Names
 pub mod Types
+pub mod Faults
+pub mod Methods
 pub mod Rules
+pub mod Laws

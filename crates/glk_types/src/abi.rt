@@ -1,4 +1,4 @@
-//! Where the parts of type data stand, as Go's `internal/abi` lays them out on 64 bits. Each place is
+//! Where the parts of type data are, as Go's `internal/abi` lays them out on 64 bits. Each offset is
 //! counted in bytes from the start of its own part; names are Go's.
 
 /// `Type.TFlag`: bits that say more of the type.
@@ -27,7 +27,7 @@ pub const STRUCT_BYTES: u32 = 32;
 
 /// `UncommonType.Mcount`: the number of methods, two bytes.
 pub const UNCOMMON_MCOUNT: u32 = 4;
-/// `UncommonType.Moff`: how far from the part's start the methods stand, four bytes.
+/// `UncommonType.Moff`: how far from the part's start the methods are, four bytes.
 pub const UNCOMMON_MOFF: u32 = 8;
 /// The length of `UncommonType`.
 pub const UNCOMMON_BYTES: u32 = 16;
@@ -55,7 +55,7 @@ pub const ITAB_TYP: u32 = 8;
 
 /// `TFlagUncommon`: an uncommon part follows.
 pub const TFLAG_UNCOMMON: u8 = 1 << 0;
-/// `TFlagExtraStar`: the string has a star in front that is not the type's.
+/// `TFlagExtraStar`: the first byte of the string is a star that is not the type's.
 pub const TFLAG_EXTRA_STAR: u8 = 1 << 1;
 
 /// `KindMask`: the bits of `Kind_` that hold the kind.

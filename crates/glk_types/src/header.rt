@@ -1,8 +1,9 @@
 // What the header of a type says: its kind, its flags, and where the uncommon part starts.
-ghost use Rattle.std.specs.Prelude.{◌≡◌, ◌+◌, ◌<◌, ◌≤◌, ◌↔◌, length, IsTrue, IfOk, IfErr};
+ghost use Rattle.std.specs.Prelude.{◌≡◌, ◌≤◌, Some, None, IfOk, OnOk, IfErr};
 ghost use Rattle.glk_types.specs.Abi.{own_bytes as own_bytes_of};
-ghost use Rattle.glk_types.specs.Rules.{HasHeader, IsHeaderFault};
-ghost use Rattle.glk_types.specs.Types.{kind_of as kind_in, HasUncommon, has_extra_star as has_extra_star_in, uncommon_at as uncommon_in};
+ghost use Rattle.glk_types.specs.Faults.{fault_of, header_fault};
+ghost use Rattle.glk_types.specs.Rules.{HasHeader};
+ghost use Rattle.glk_types.specs.Types.{kind_of as kind_in, has_uncommon as has_uncommon_in, has_extra_star as has_extra_star_in, uncommon_offset as uncommon_offset_in};
 
 use crate::abi::{
     ARRAY_BYTES, CHAN_BYTES, FUNC_BYTES, KIND_ARRAY, KIND_CHAN, KIND_FUNC, KIND_MAP, KIND_MASK,
@@ -13,20 +14,29 @@ use crate::abi::{
 /// The rule that type data break, and the offset that it reports.
 #[derive(Clone, Copy, Debug, PartialEq, Eq)]
 pub struct TypeBad {
-    /// The rule's number, 1 to 7 for Y1 to Y7: the least of the broken ones that the call looks at.
+    /// The rule's number, 1 to 6 for Y1 to Y6: the least of the broken ones that the call looks at.
     pub rule: u8,
     /// An offset in the symbol that the rule speaks of.
     pub offset: u32,
 }
 
-/// Whether the data are long enough for a header.
-pub(crate) fn has_header(bytes: &[u8]) -> bool
-    ensures { IsTrue result ↔ HasHeader bytes.now }
+// Y1: whether the data are long enough for a header.
+#[tactic(auto, unfolding(crate::specs::Faults::header_fault))]
+pub(crate) fn check_header(bytes: &[u8]) -> Result<(), TypeBad>
+    ensures ok { OnOk result (HasHeader bytes.now) }
+    ensures kept { OnOk result (header_fault bytes.now ≡ None) }
+    ensures err { IfErr result (λ bad. header_fault bytes.now ≡ Some (fault_of bad)) }
 {
-    bytes.len() >= TYPE_BYTES as usize
+    if bytes.len() < TYPE_BYTES as usize {
+        return Err(TypeBad {
+            rule: 1,
+            offset: bytes.len() as u32,
+        });
+    }
+    Ok(())
 }
 
-/// The kind of a type.
+// The kind of a type.
 #[tactic(auto, unfolding(crate::specs::Types::kind_of))]
 pub(crate) fn kind_of(bytes: &[u8]) -> u8
     requires { HasHeader bytes.now }
@@ -35,16 +45,16 @@ pub(crate) fn kind_of(bytes: &[u8]) -> u8
     bytes[TYPE_KIND as usize] & KIND_MASK
 }
 
-/// Whether an uncommon part follows.
-#[tactic(auto, unfolding(crate::specs::Types::HasUncommon))]
+// Whether an uncommon part follows.
+#[tactic(auto, unfolding(crate::specs::Types::has_uncommon))]
 pub(crate) fn has_uncommon(bytes: &[u8]) -> bool
     requires { HasHeader bytes.now }
-    ensures { IsTrue result ↔ HasUncommon bytes.now }
+    ensures { result ≡ has_uncommon_in bytes.now }
 {
     bytes[TYPE_TFLAG as usize] & TFLAG_UNCOMMON != 0
 }
 
-/// Whether the string has a star in front that is not the type's.
+// Whether the first byte of the string is a star that is not the type's.
 #[tactic(auto, unfolding(crate::specs::Types::has_extra_star))]
 fn has_extra_star(bytes: &[u8]) -> bool
     requires { HasHeader bytes.now }
@@ -53,7 +63,7 @@ fn has_extra_star(bytes: &[u8]) -> bool
     bytes[TYPE_TFLAG as usize] & TFLAG_EXTRA_STAR != 0
 }
 
-/// How many bytes of its own a kind has between the header and the uncommon part.
+// How many bytes of its own a kind has between the header and the uncommon part.
 #[tactic(auto, unfolding(crate::specs::Abi::own_bytes))]
 fn own_bytes(kind: u8) -> u32
     ensures value { result ≡ own_bytes_of kind }
@@ -71,41 +81,38 @@ fn own_bytes(kind: u8) -> u32
     }
 }
 
-/// Where the uncommon part starts.
-#[tactic(auto, unfolding(crate::specs::Types::uncommon_at))]
-pub(crate) fn uncommon_at(bytes: &[u8]) -> u32
+// Where the uncommon part starts.
+#[tactic(auto, unfolding(crate::specs::Types::uncommon_offset))]
+pub(crate) fn uncommon_offset(bytes: &[u8]) -> u32
     requires { HasHeader bytes.now }
-    ensures value { result ≡ uncommon_in bytes.now }
+    ensures value { result ≡ uncommon_offset_in bytes.now }
     ensures small { result ≤ 88 }
 {
     TYPE_BYTES + own_bytes(kind_of(bytes))
 }
 
-/// The kind of the type with these data, from 0 to 31, or Y1 at the data's length.
+/// The kind of the type with these data, from 0 to 31.
+///
+/// # Errors
+/// Y1 at the data's length.
 pub fn kind(bytes: &[u8]) -> Result<u8, TypeBad>
-    ensures ok { IfOk result (λ found. HasHeader bytes.now × (found ≡ kind_in bytes.now)) }
-    ensures err { IfErr result (λ bad. IsHeaderFault bytes.now bad.rule bad.offset) }
+    ensures ok { IfOk result (λ found. found ≡ kind_in bytes.now) }
+    ensures kept { OnOk result (header_fault bytes.now ≡ None) }
+    ensures err { IfErr result (λ bad. header_fault bytes.now ≡ Some (fault_of bad)) }
 {
-    if !has_header(bytes) {
-        return Err(TypeBad {
-            rule: 1,
-            offset: bytes.len() as u32,
-        });
-    }
+    check_header(bytes)?;
     Ok(kind_of(bytes))
 }
 
-/// Whether the string of the type with these data has a star in front that is not the type's, or
+/// Whether the first byte of the string of the type with these data is a star that is not the type's.
+///
+/// # Errors
 /// Y1 at the data's length.
 pub fn extra_star(bytes: &[u8]) -> Result<bool, TypeBad>
-    ensures ok { IfOk result (λ found. HasHeader bytes.now × (found ≡ has_extra_star_in bytes.now)) }
-    ensures err { IfErr result (λ bad. IsHeaderFault bytes.now bad.rule bad.offset) }
+    ensures ok { IfOk result (λ found. found ≡ has_extra_star_in bytes.now) }
+    ensures kept { OnOk result (header_fault bytes.now ≡ None) }
+    ensures err { IfErr result (λ bad. header_fault bytes.now ≡ Some (fault_of bad)) }
 {
-    if !has_header(bytes) {
-        return Err(TypeBad {
-            rule: 1,
-            offset: bytes.len() as u32,
-        });
-    }
+    check_header(bytes)?;
     Ok(has_extra_star(bytes))
 }

@@ -7,16 +7,23 @@
 #![tactic(auto)]
 
 pub mod abi;
+mod entries;
 mod header;
 mod imethods;
+mod laws;
 mod methods;
 mod names;
-mod places;
+mod targets;
 #[cfg(test)]
 mod tests;
 
+pub use entries::Methods;
 pub use header::{TypeBad, extra_star, kind};
 pub use imethods::imethod;
+pub use laws::{constants_are_of_layout, faults_are_of_rules};
 pub use methods::method_at;
 pub use names::{name, type_string};
-pub use places::target_at;
+pub use targets::{
+    imethod_name_target, imethod_type_target, itab_type_target, method_name_target, target_at,
+    type_string_target,
+};

@@ -1,66 +1,133 @@
 // The methods of a type: the uncommon part, the entries, and the METHODOFF relocations that fill them.
-ghost use Rattle.std.specs.Prelude.{◌≡◌, ◌+◌, ◌*◌, ◌<◌, ◌≤◌, ◌^◌, ◌↔◌, ◌⊎◌, ℕ, length, IsTrue, IfOk, OnOk, IfErr, MatchOption};
-ghost use Rattle.glk_types.specs.Rules.{HasHeader, HasMethods, HasUncommonInside, HasMethodsInside, IsMethodoff, HasMethodoffs, IsFirstOther, IsFirstLacking, Keeps, MethodAsks, IsMethodFault};
-ghost use Rattle.glk_types.specs.Types.{method_count as method_count_of, methods_at as methods_in, method_place as method_place_of, methodoff_field as methodoff_field_of};
+ghost use Rattle.std.specs.Prelude.{◌≡◌, ◌+◌, ◌*◌, ◌<◌, ◌≤◌, ◌^◌, length, Some, None, IfOk, OnOk, IfErr};
+ghost use Rattle.glk_types.specs.Abi.{abi_method};
+ghost use Rattle.glk_types.specs.Faults.{fault_of, uncommon_fault, inside_fault, offsets_fault, methods_fault, other_from};
+ghost use Rattle.glk_types.specs.Methods.{count_of, start_of, AreMethodsOf, AreInside};
+ghost use Rattle.glk_types.specs.Rules.{HasHeader, HasUncommonInside};
+ghost use Rattle.glk_types.specs.Types.{can_have_methods as can_have_methods_in, has_uncommon_inside as has_uncommon_inside_in, has_methods_inside as has_methods_inside_in, method_count as method_count_of, methods_offset as methods_offset_in, entry_offset, methodoff_field as methodoff_field_of, methodoff_offset as methodoff_offset_of};
 
 use crate::abi::{
     KIND_INTERFACE, METHOD_BYTES, METHOD_IFN, METHOD_MTYP, METHOD_TFN, TYPE_TFLAG, UNCOMMON_BYTES,
     UNCOMMON_MCOUNT, UNCOMMON_MOFF,
 };
-use crate::header::{TypeBad, has_header, has_uncommon, kind_of, uncommon_at};
+use crate::entries::Methods;
+use crate::header::{TypeBad, check_header, has_uncommon, kind_of, uncommon_offset};
 use glk_base::{le16, le32};
 
-/// Whether the type may have methods.
-fn has_methods(bytes: &[u8]) -> bool
+impl Methods {
+    /// The methods of the type with these data, whose METHODOFF relocations have these offsets, in
+    /// their order. It looks at each offset once.
+    ///
+    /// # Errors
+    /// Y1 at the data's length, Y3 at the flags, Y4 where the uncommon part starts, or Y5 at the first
+    /// offset that is not that of the methods, else at the entry that lacks one.
+    #[tactic(auto, unfolding(crate::specs::Faults::methods_fault))]
+    pub fn read(bytes: &[u8], offsets: &[u32]) -> Result<Methods, TypeBad>
+        requires { length bytes.now < 2 ^ 32 }
+        ensures ok { IfOk result (λ methods. AreMethodsOf bytes.now methods) }
+        ensures inside { IfOk result (λ methods. AreInside (length bytes.now) methods) }
+        ensures offsets { OnOk result (length offsets.now ≡ 3 * method_count_of bytes.now) }
+        ensures kept { OnOk result (methods_fault bytes.now offsets.now ≡ None) }
+        ensures err { IfErr result (λ bad. methods_fault bytes.now offsets.now ≡ Some (fault_of bad)) }
+    {
+        check_header(bytes)?;
+        check_uncommon(bytes)?;
+        let methods = methods_inside(bytes)?;
+        check_offsets(bytes, methods, offsets)?;
+        Ok(methods)
+    }
+
+    /// How many methods there are.
+    pub fn count(self) -> u32
+        ensures { result ≡ count_of self }
+    {
+        u32::from(self.count)
+    }
+
+    /// The offset of entry `k`, which is inside the data.
+    pub fn entry(self, k: u32) -> u32
+        requires { k < count_of self }
+        ensures value { result ≡ entry_offset (start_of self) k }
+        ensures room { result + abi_method.bytes < 2 ^ 32 }
+    {
+        self.start as u32 + METHOD_BYTES * k
+    }
+}
+
+// Whether the type may have methods.
+fn can_have_methods(bytes: &[u8]) -> bool
     requires { HasHeader bytes.now }
-    ensures { IsTrue result ↔ HasMethods bytes.now }
+    ensures { result ≡ can_have_methods_in bytes.now }
 {
     kind_of(bytes) != KIND_INTERFACE && has_uncommon(bytes)
 }
 
-/// Whether the uncommon part is inside the data.
-fn has_uncommon_inside(bytes: &[u8]) -> bool
+// Y3: whether the type may have methods.
+#[tactic(auto, unfolding(crate::specs::Faults::uncommon_fault))]
+fn check_uncommon(bytes: &[u8]) -> Result<(), TypeBad>
     requires { HasHeader bytes.now }
-    ensures { IsTrue result ↔ HasUncommonInside bytes.now }
+    ensures ok { OnOk result (uncommon_fault bytes.now ≡ None) }
+    ensures err { IfErr result (λ bad. uncommon_fault bytes.now ≡ Some (fault_of bad)) }
 {
-    bytes.len() >= (uncommon_at(bytes) + UNCOMMON_BYTES) as usize
+    if !can_have_methods(bytes) {
+        return Err(TypeBad {
+            rule: 3,
+            offset: TYPE_TFLAG,
+        });
+    }
+    Ok(())
 }
 
-/// How many methods there are.
+// How many methods there are.
 #[tactic(auto, unfolding(crate::specs::Types::method_count))]
-fn method_count(bytes: &[u8]) -> u64
+fn method_count(bytes: &[u8]) -> u16
     requires header { HasHeader bytes.now }
     requires inside { HasUncommonInside bytes.now }
-    ensures value { result ≡ method_count_of bytes.now }
-    ensures small { result < 2 ^ 16 }
+    ensures { result ≡ method_count_of bytes.now }
 {
-    u64::from(le16(bytes, (uncommon_at(bytes) + UNCOMMON_MCOUNT) as usize).unwrap())
+    le16(bytes, (uncommon_offset(bytes) + UNCOMMON_MCOUNT) as usize).unwrap()
 }
 
-/// Where the entries of the methods start.
-#[tactic(auto, unfolding(crate::specs::Types::methods_at))]
-fn methods_at(bytes: &[u8]) -> u64
+// Where the entries of the methods start.
+#[tactic(auto, unfolding(crate::specs::Types::methods_offset))]
+fn methods_offset(bytes: &[u8]) -> u64
     requires header { HasHeader bytes.now }
     requires inside { HasUncommonInside bytes.now }
-    ensures value { result ≡ methods_in bytes.now }
+    ensures value { result ≡ methods_offset_in bytes.now }
     ensures small { result < 2 ^ 33 }
 {
-    let uncommon = uncommon_at(bytes);
+    let uncommon = uncommon_offset(bytes);
     u64::from(uncommon) + u64::from(le32(bytes, (uncommon + UNCOMMON_MOFF) as usize).unwrap())
 }
 
-/// Whether the entries of the methods are inside the data.
-fn has_methods_inside(bytes: &[u8]) -> bool
+// Y4: the methods, which are inside the data.
+#[tactic(auto, unfolding(crate::specs::Faults::inside_fault))]
+fn methods_inside(bytes: &[u8]) -> Result<Methods, TypeBad>
     requires header { HasHeader bytes.now }
-    requires inside { HasUncommonInside bytes.now }
-    ensures { IsTrue result ↔ HasMethodsInside bytes.now }
+    requires small { length bytes.now < 2 ^ 32 }
+    ensures ok { IfOk result (λ methods. AreMethodsOf bytes.now methods) }
+    ensures inside { IfOk result (λ methods. AreInside (length bytes.now) methods) }
+    ensures kept { OnOk result (inside_fault bytes.now ≡ None) }
+    ensures err { IfErr result (λ bad. inside_fault bytes.now ≡ Some (fault_of bad)) }
 {
+    let uncommon = uncommon_offset(bytes);
+    let outside = TypeBad {
+        rule: 4,
+        offset: uncommon,
+    };
+    if bytes.len() < (uncommon + UNCOMMON_BYTES) as usize {
+        return Err(outside);
+    }
     let count = method_count(bytes);
-    count == 0 || methods_at(bytes) + u64::from(METHOD_BYTES) * count <= bytes.len() as u64
+    let start = methods_offset(bytes);
+    if count != 0 && start + u64::from(METHOD_BYTES) * u64::from(count) > bytes.len() as u64 {
+        return Err(outside);
+    }
+    Ok(Methods { count, start })
 }
 
-/// The fields of a method's entry that METHODOFF relocations fill, in their order.
-fn methodoff_field(i: u64) -> u32
+// The fields of a method's entry that METHODOFF relocations fill, in their order.
+fn methodoff_field(i: u32) -> u32
     requires { i < 3 }
     ensures value { result ≡ methodoff_field_of i }
     ensures small { result ≤ 12 }
@@ -72,97 +139,65 @@ fn methodoff_field(i: u64) -> u32
     }
 }
 
-/// Whether entry `j` of the METHODOFF offsets is that of METHODOFF number `j` of the methods, of
-/// which there are `count` from `methods` on.
-#[tactic(auto, unfolding(crate::specs::Rules::IsMethodoff, crate::specs::Types::methodoff_place))]
-fn is_methodoff(bytes: &[u8], methods: u64, count: u64, triples: &[u32], j: usize) -> bool
-    requires methods { methods ≡ methods_in bytes.now }
-    requires near { methods < 2 ^ 33 }
-    requires count { count ≡ method_count_of bytes.now }
-    requires few { count < 2 ^ 16 }
-    requires index { j < length triples.now }
-    ensures { IsTrue result ↔ IsMethodoff bytes.now triples.now j }
+// The offset of METHODOFF number `j` of the methods.
+#[tactic(auto, unfolding(crate::specs::Types::methodoff_offset))]
+fn methodoff_offset(methods: Methods, j: u32) -> u32
+    requires { j < 3 * count_of methods }
+    ensures { result ≡ methodoff_offset_of (start_of methods) j }
 {
-    let _ = bytes;
-    let number = j as u64;
-    if number >= 3 * count {
-        return false;
-    }
-    let entry = methods + u64::from(METHOD_BYTES) * (number / 3);
-    u64::from(triples[j]) == entry + u64::from(methodoff_field(number % 3))
+    methods.entry(j / 3) + methodoff_field(j % 3)
 }
 
-/// The first METHODOFF offset that is not that of the methods.
-fn first_other(bytes: &[u8], triples: &[u32]) -> Option<u32>
-    requires header { HasHeader bytes.now }
-    requires inside { HasUncommonInside bytes.now }
-    ensures { MatchOption result ((j : ℕ) → j < length triples.now → IsMethodoff bytes.now triples.now j) (IsFirstOther bytes.now triples.now) }
+// The first METHODOFF offset that is not that of the methods, else the entry that lacks one.
+fn other_offset(methods: Methods, offsets: &[u32]) -> Option<u32>
+    ensures { result ≡ other_from (start_of methods) (count_of methods) 0 offsets.now }
 {
-    let methods = methods_at(bytes);
-    let count = method_count(bytes);
-    for (j, offset) in triples.iter().enumerate() {
-        if !is_methodoff(bytes, methods, count, triples, j) {
+    let wanted = 3 * methods.count();
+    let mut rest = offsets;
+    let mut j = 0;
+    while let [offset, after @ ..] = rest {
+        if j >= wanted || *offset != methodoff_offset(methods, j) {
             return Some(*offset);
         }
+        rest = after;
+        j += 1;
+    }
+    if j < wanted {
+        return Some(methods.entry(j / 3));
     }
     None
 }
 
-/// Y5: the first METHODOFF offset that is not that of the methods, else the place of the method
-/// whose entry lacks one.
-fn misplaced(bytes: &[u8], triples: &[u32]) -> Option<u32>
-    requires small { length bytes.now < 2 ^ 32 }
-    requires header { HasHeader bytes.now }
-    requires inside { HasUncommonInside bytes.now }
-    requires methods { HasMethodsInside bytes.now }
-    ensures { MatchOption result (HasMethodoffs bytes.now triples.now) (λ offset. IsFirstOther bytes.now triples.now offset ⊎ IsFirstLacking bytes.now triples.now offset) }
+// Y5: whether the METHODOFF offsets are those of the methods.
+#[tactic(auto, unfolding(crate::specs::Faults::offsets_fault))]
+fn check_offsets(bytes: &[u8], methods: Methods, offsets: &[u32]) -> Result<(), TypeBad>
+    requires { AreMethodsOf bytes.now methods }
+    ensures ok { OnOk result (offsets_fault bytes.now offsets.now ≡ None) }
+    ensures count { OnOk result (length offsets.now ≡ 3 * count_of methods) }
+    ensures err { IfErr result (λ bad. offsets_fault bytes.now offsets.now ≡ Some (fault_of bad)) }
 {
-    match first_other(bytes, triples) {
-        Some(offset) => return Some(offset),
-        None => {}
+    let _ = bytes;
+    match other_offset(methods, offsets) {
+        Some(offset) => Err(TypeBad { rule: 5, offset }),
+        None => Ok(()),
     }
-    let filled = triples.len() as u64;
-    if filled < 3 * method_count(bytes) {
-        return Some((methods_at(bytes) + u64::from(METHOD_BYTES) * (filled / 3)) as u32);
-    }
-    None
 }
 
-/// Where the entry of method `k` stands in the type with these data, whose METHODOFF relocations
-/// have these offsets, in their order; or Y1 at the data's length, Y3 at the flags, Y4 where the
-/// uncommon part starts, or Y5 at the first offset that is not that of the methods, else at the
-/// entry that lacks one.
+/// Where the entry of method `k` is in the type with these data, whose METHODOFF relocations have
+/// these offsets, in their order. Each call looks at all the offsets: `Methods::read` is for more
+/// than one entry.
 ///
-/// Each call looks at all the offsets. One is enough for a type: entry `k` stands `METHOD_BYTES * k`
-/// behind entry 0, and what `keeps` says of the methods holds of each.
+/// # Errors
+/// As `Methods::read`.
 pub fn method_at(bytes: &[u8], triples: &[u32], k: u32) -> Result<u32, TypeBad>
     requires small { length bytes.now < 2 ^ 32 }
     requires index { 3 * k + 2 < length triples.now }
-    ensures keeps { OnOk result (Keeps (MethodAsks bytes.now triples.now)) }
-    ensures ok { IfOk result (λ at. at ≡ method_place_of bytes.now k) }
+    ensures ok { IfOk result (λ at. at ≡ entry_offset (methods_offset_in bytes.now) k) }
+    ensures inside { IfOk result (λ at. at + abi_method.bytes ≤ length bytes.now) }
     ensures index { OnOk result (k < method_count_of bytes.now) }
-    ensures err { IfErr result (λ bad. IsMethodFault bytes.now triples.now bad.rule bad.offset) }
+    ensures kept { OnOk result (methods_fault bytes.now triples.now ≡ None) }
+    ensures err { IfErr result (λ bad. methods_fault bytes.now triples.now ≡ Some (fault_of bad)) }
 {
-    if !has_header(bytes) {
-        return Err(TypeBad {
-            rule: 1,
-            offset: bytes.len() as u32,
-        });
-    }
-    if !has_methods(bytes) {
-        return Err(TypeBad {
-            rule: 3,
-            offset: TYPE_TFLAG,
-        });
-    }
-    if !has_uncommon_inside(bytes) || !has_methods_inside(bytes) {
-        return Err(TypeBad {
-            rule: 4,
-            offset: uncommon_at(bytes),
-        });
-    }
-    match misplaced(bytes, triples) {
-        Some(offset) => Err(TypeBad { rule: 5, offset }),
-        None => Ok((methods_at(bytes) + u64::from(METHOD_BYTES) * u64::from(k)) as u32),
-    }
+    let methods = Methods::read(bytes, triples)?;
+    Ok(methods.entry(k))
 }

@@ -2,5 +2,5 @@ pub mod Spellings
 pub mod Steps
 pub mod Settings
 pub mod WordSteps
-pub mod Taken
+pub mod Accepted
 pub mod Spelled

@@ -9,13 +9,13 @@ use Rattle.std.proofs.lemmas.List.Sums.{position_or_len_is}
 use Rattle.std.proofs.Math.ListN.{get_or-append}
 use Rattle.std.proofs.Math.Seq.{get_or-append_seam, take-append_seam, drop-append-add}
 use Rattle.std.proofs.lemmas.List.{length-append, append-nil}
-use Rattle.glk_base.specs.Flags.{flag, flag_of, flag_with, named, after_dash, equals, dash}
+use Rattle.glk_base.specs.Flags.{flag, flag_of, flag_with, named_flag, after_dash, equals, dash}
 use Rattle.glk_words.specs.declared.commands.Command.{Command}
 use Rattle.glk_words.specs.declared.commands.Command.TheVariants as command
 use Rattle.glk_words.specs.declared.commands.Flag.{Flag}
 use Rattle.glk_words.specs.Values.{found_in}
-use Rattle.glk_words.specs.Commands.{flags_of, is_truth, takes_value}
-use Rattle.glk_words.specs.Order.{Setting, asked_from, with_value}
+use Rattle.glk_words.specs.Commands.{flags_of, is_truth, accepts}
+use Rattle.glk_words.specs.CommandLine.{FlagSetting, invocation_from, with_value}
 use Rattle.glk_words.specs.Laws.{one_more, SpellingsAgree}
 
 -- no equals sign is among these
@@ -90,8 +90,8 @@ name_free : (name : List ℕ) → is_name name ≡ true → free name ≡ true
 name_free [] h = absurd (false≢true h)
 name_free (b ∷ bs) h = both_right (not (b == dash)) (free (b ∷ bs)) h
 
-named_with : (name value : List ℕ) → free name ≡ true → named (name ++ equals ∷ value) ≡ flag name (Some value)
-unfolding named
+named_with : (name value : List ℕ) → free name ≡ true → named_flag (name ++ equals ∷ value) ≡ flag name (Some value)
+unfolding named_flag
 named_with name value h =
     let at : position_or_len (λ b. b == equals) (name ++ equals ∷ value) ≡ length name = cut name value h in
     let all : length (name ++ equals ∷ value) ≡ length name + length (equals ∷ value) = length-append name (equals ∷ value) in
@@ -100,52 +100,52 @@ named_with name value h =
     let inside : nat_lt (length name) (length (name ++ equals ∷ value)) ≡ true = grind (arith, all) in
     rw (at, inside, front, back) refl
 
-named_alone : (name : List ℕ) → free name ≡ true → named name ≡ flag name None
-unfolding named
+named_alone : (name : List ℕ) → free name ≡ true → named_flag name ≡ flag name None
+unfolding named_flag
 named_alone name h =
     let at : position_or_len (λ b. b == equals) name ≡ length name = whole name h in
     let outside : nat_lt (length name) (length name) ≡ false = grind arith in
     rw (at, outside) refl
 
--- behind dashes a name is a flag's
-behind_dashes : (b : ℕ) (rest : List ℕ) → (b == dash) ≡ false → (b == equals) ≡ false → flag_with (b ∷ rest) ≡ named (b ∷ rest)
+-- after dashes a name is a flag's
+after_dashes : (b : ℕ) (rest : List ℕ) → (b == dash) ≡ false → (b == equals) ≡ false → flag_with (b ∷ rest) ≡ named_flag (b ∷ rest)
 unfolding flag_with
-behind_dashes b rest apart other = rw (apart, other) refl
+after_dashes b rest apart other = rw (apart, other) refl
 
-spelled_one : (name tail : List ℕ) → is_name name ≡ true → flag_of (codes "-" ++ (name ++ tail)) ≡ named (name ++ tail)
+spelled_one : (name tail : List ℕ) → is_name name ≡ true → flag_of (codes "-" ++ (name ++ tail)) ≡ named_flag (name ++ tail)
 unfolding flag_of after_dash
 spelled_one [] tail h = absurd (false≢true h)
 spelled_one (b ∷ bs) tail h =
     let apart : (b == dash) ≡ false = denied (b == dash) (both_left (not (b == dash)) _ h) in
     let other : (b == equals) ≡ false = denied (b == equals) (both_left (not (b == equals)) (free bs) (both_right (not (b == dash)) _ h)) in
-    rw apart (behind_dashes b (bs ++ tail) apart other)
+    rw apart (after_dashes b (bs ++ tail) apart other)
 
-spelled_two : (name tail : List ℕ) → is_name name ≡ true → flag_of (codes "--" ++ (name ++ tail)) ≡ named (name ++ tail)
+spelled_two : (name tail : List ℕ) → is_name name ≡ true → flag_of (codes "--" ++ (name ++ tail)) ≡ named_flag (name ++ tail)
 unfolding flag_of after_dash
 spelled_two [] tail h = absurd (false≢true h)
 spelled_two (b ∷ bs) tail h =
     let apart : (b == dash) ≡ false = denied (b == dash) (both_left (not (b == dash)) _ h) in
     let other : (b == equals) ≡ false = denied (b == equals) (both_left (not (b == equals)) (free bs) (both_right (not (b == dash)) _ h)) in
-    behind_dashes b (bs ++ tail) apart other
+    after_dashes b (bs ++ tail) apart other
 
-module _ (c : Command) (given : List Setting) (n : ℕ) (name : List ℕ) (f : Flag) (value : List ℕ) (words : List (List ℕ)) (found : found_in (flags_of c) name ≡ Some f) (takes : takes_value f value ≡ true) where
-  with_equals : (word : List ℕ) → flag_of word ≡ flag name (Some value) → asked_from c None given n (word ∷ words) ≡ asked_from c None (one_more given f value) (n + 1) words
-  unfolding asked_from with_value
+module _ (c : Command) (settings : List FlagSetting) (n : ℕ) (name : List ℕ) (f : Flag) (value : List ℕ) (words : List (List ℕ)) (found : found_in (flags_of c) name ≡ Some f) (takes : accepts f value ≡ true) where
+  with_equals : (word : List ℕ) → flag_of word ≡ flag name (Some value) → invocation_from c None settings n (word ∷ words) ≡ invocation_from c None (one_more settings f value) (n + 1) words
+  unfolding invocation_from with_value
   with_equals word is = rw (is, found, takes) refl
 
-  with_next : (word : List ℕ) → flag_of word ≡ flag name None → is_truth f ≡ false → asked_from c None given n (word ∷ value ∷ words) ≡ asked_from c None (one_more given f value) (n + 1 + 1) words
-  unfolding asked_from with_value
+  with_next : (word : List ℕ) → flag_of word ≡ flag name None → is_truth f ≡ false → invocation_from c None settings n (word ∷ value ∷ words) ≡ invocation_from c None (one_more settings f value) (n + 1 + 1) words
+  unfolding invocation_from with_value
   with_next word is truth = rw (is, found, truth, takes) refl
 
 pub agree : SpellingsAgree
-agree c given n name f value words found takes =
+agree c settings n name f value words found takes =
     let is : is_name name ≡ true = found_name (flags_of c) name f (names_of c) found in
     let no : free name ≡ true = name_free name is in
-    let one : flag_of (codes "-" ++ name) ≡ named name = rw (append-nil name) at (spelled_one name [] is) in
-    let two : flag_of (codes "--" ++ name) ≡ named name = rw (append-nil name) at (spelled_two name [] is) in
+    let one : flag_of (codes "-" ++ name) ≡ named_flag name = rw (append-nil name) at (spelled_one name [] is) in
+    let two : flag_of (codes "--" ++ name) ≡ named_flag name = rw (append-nil name) at (spelled_two name [] is) in
     record {
-      one_dash = with_equals c given n name f value words found takes _ (spelled_one name (codes "=" ++ value) is ∙ named_with name value no);
-      two_dashes = with_equals c given n name f value words found takes _ (spelled_two name (codes "=" ++ value) is ∙ named_with name value no);
-      one_dash_next = λ truth. with_next c given n name f value words found takes _ (one ∙ named_alone name no) truth;
-      two_dashes_next = λ truth. with_next c given n name f value words found takes _ (two ∙ named_alone name no) truth;
+      one_dash = with_equals c settings n name f value words found takes _ (spelled_one name (codes "=" ++ value) is ∙ named_with name value no);
+      two_dashes = with_equals c settings n name f value words found takes _ (spelled_two name (codes "=" ++ value) is ∙ named_with name value no);
+      one_dash_next = λ truth. with_next c settings n name f value words found takes _ (one ∙ named_alone name no) truth;
+      two_dashes_next = λ truth. with_next c settings n name f value words found takes _ (two ∙ named_alone name no) truth;
     }

@@ -5,7 +5,7 @@ use Rattle.glk_words.specs.declared.commands.Command.{Command}
 use Rattle.glk_words.specs.declared.commands.Command.TheVariants as command
 use Rattle.glk_words.specs.declared.commands.Flag.{Flag}
 use Rattle.glk_words.specs.declared.commands.Flag.TheVariants as flag
-use Rattle.glk_words.specs.Values.{found_in, truth_of, number_of, sorts, is_some, is_up_to, most_workers, most_functions}
+use Rattle.glk_words.specs.Values.{found_in, truth_of, number_of, sorts, is_some, is_up_to, worker_limit, function_limit}
 
 abbrev pub commands : List (List ℕ × Command)
 commands =
@@ -16,7 +16,7 @@ commands =
     ∷ (codes "addr2line", command.Addr2line)
     ∷ (codes "gen", command.Gen) ∷ []
 
--- the flags of a command, by their names behind the dashes
+-- the flags of a command, by their names after the dashes
 unfoldable pub flags_of : Command → List (List ℕ × Flag)
 flags_of command.Link =
     (codes "o", flag.Out)
@@ -36,7 +36,7 @@ flags_of command.Nm = (codes "n", flag.ByAddress) ∷ (codes "size", flag.Size) 
 flags_of command.Addr2line = (codes "i", flag.Inline) ∷ []
 flags_of command.Gen = (codes "seed", flag.Seed) ∷ (codes "n", flag.Count) ∷ (codes "workers", flag.Workers) ∷ []
 
--- how many threads work at once where no flag tells
+-- how many threads work at once where no flag says
 abbrev pub default_workers : ℕ
 default_workers = 4
 
@@ -45,7 +45,7 @@ abbrev pub takes_file : Command → Bool
 takes_file command.Gen = false
 takes_file c = true
 
--- a truth flag stands alone; its value, if any, stands behind `=`
+-- a truth flag stands alone; its value, if any, follows an `=`
 abbrev pub is_truth : Flag → Bool
 is_truth flag.Strip = true
 is_truth flag.OmitDwarf = true
@@ -54,22 +54,22 @@ is_truth flag.Size = true
 is_truth flag.Inline = true
 is_truth f = false
 
--- the values that a flag takes; a path, a name or an id is any word
-unfoldable pub takes_value : Flag → List ℕ → Bool
-takes_value flag.Out value = true
-takes_value flag.ImportCfg value = true
-takes_value flag.Numbers value = true
-takes_value flag.Builtin value = true
-takes_value flag.Entry value = true
-takes_value flag.Strip value = is_some (truth_of value)
-takes_value flag.OmitDwarf value = is_some (truth_of value)
-takes_value flag.Workers value = is_up_to most_workers (number_of value)
-takes_value flag.BuildMode value = bytes_eq value (codes "exe")
-takes_value flag.BuildId value = true
-takes_value flag.ExtLd value = true
-takes_value flag.ByAddress value = is_some (truth_of value)
-takes_value flag.Size value = is_some (truth_of value)
-takes_value flag.Sort value = is_some (found_in sorts value)
-takes_value flag.Inline value = is_some (truth_of value)
-takes_value flag.Seed value = is_some (number_of value)
-takes_value flag.Count value = is_up_to most_functions (number_of value)
+-- the values that a flag accepts; a path, a name or an id is any word
+unfoldable pub accepts : Flag → List ℕ → Bool
+accepts flag.Out value = true
+accepts flag.ImportCfg value = true
+accepts flag.Numbers value = true
+accepts flag.Builtin value = true
+accepts flag.Entry value = true
+accepts flag.Strip value = is_some (truth_of value)
+accepts flag.OmitDwarf value = is_some (truth_of value)
+accepts flag.Workers value = is_up_to worker_limit (number_of value)
+accepts flag.BuildMode value = bytes_eq value (codes "exe")
+accepts flag.BuildId value = true
+accepts flag.ExtLd value = true
+accepts flag.ByAddress value = is_some (truth_of value)
+accepts flag.Size value = is_some (truth_of value)
+accepts flag.Sort value = is_some (found_in sorts value)
+accepts flag.Inline value = is_some (truth_of value)
+accepts flag.Seed value = is_some (number_of value)
+accepts flag.Count value = is_up_to function_limit (number_of value)

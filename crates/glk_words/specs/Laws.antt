@@ -3,25 +3,25 @@ use Rattle.std.specs.Prelude.{◌≡◌, ◌+◌, ℕ, List, [], ◌∷◌, ◌+
 use Rattle.glk_words.specs.declared.commands.Command.{Command}
 use Rattle.glk_words.specs.declared.commands.Flag.{Flag}
 use Rattle.glk_words.specs.Values.{found_in}
-use Rattle.glk_words.specs.Commands.{flags_of, is_truth, takes_value}
-use Rattle.glk_words.specs.Order.{Setting, asked_from}
+use Rattle.glk_words.specs.Commands.{flags_of, is_truth, accepts}
+use Rattle.glk_words.specs.CommandLine.{FlagSetting, invocation_from}
 
-abbrev pub one_more : List Setting → Flag → List ℕ → List Setting
-one_more given f value = given ++ record { flag = f; value = value } ∷ []
+abbrev pub one_more : List FlagSetting → Flag → List ℕ → List FlagSetting
+one_more settings f value = settings ++ record { flag = f; value = value } ∷ []
 
--- a setting in one word, behind one dash or two
+-- a setting in one word, after one dash or two
 abbrev pub in_one_word : List ℕ → List ℕ → List ℕ → List ℕ
 in_one_word dashes name value = dashes ++ (name ++ (codes "=" ++ value))
 
 -- `-name=value`, `--name=value`, and for a flag that is no truth flag `-name value` and `--name value`: each is this setting,
--- and the words behind it are read as if they stood there alone
-pub record HasOneMeaning (c : Command) (given : List Setting) (n : ℕ) (name : List ℕ) (f : Flag) (value : List ℕ) (words : List (List ℕ)) : Type 0 where
-  pub one_dash : asked_from c None given n (in_one_word (codes "-") name value ∷ words) ≡ asked_from c None (one_more given f value) (n + 1) words
-  pub two_dashes : asked_from c None given n (in_one_word (codes "--") name value ∷ words) ≡ asked_from c None (one_more given f value) (n + 1) words
-  pub one_dash_next : is_truth f ≡ false → asked_from c None given n ((codes "-" ++ name) ∷ value ∷ words) ≡ asked_from c None (one_more given f value) (n + 1 + 1) words
-  pub two_dashes_next : is_truth f ≡ false → asked_from c None given n ((codes "--" ++ name) ∷ value ∷ words) ≡ asked_from c None (one_more given f value) (n + 1 + 1) words
+-- and the words after it are read as if they were there alone
+pub record HasOneMeaning (c : Command) (settings : List FlagSetting) (n : ℕ) (name : List ℕ) (f : Flag) (value : List ℕ) (words : List (List ℕ)) : Type 0 where
+  pub one_dash : invocation_from c None settings n (in_one_word (codes "-") name value ∷ words) ≡ invocation_from c None (one_more settings f value) (n + 1) words
+  pub two_dashes : invocation_from c None settings n (in_one_word (codes "--") name value ∷ words) ≡ invocation_from c None (one_more settings f value) (n + 1) words
+  pub one_dash_next : is_truth f ≡ false → invocation_from c None settings n ((codes "-" ++ name) ∷ value ∷ words) ≡ invocation_from c None (one_more settings f value) (n + 1 + 1) words
+  pub two_dashes_next : is_truth f ≡ false → invocation_from c None settings n ((codes "--" ++ name) ∷ value ∷ words) ≡ invocation_from c None (one_more settings f value) (n + 1 + 1) words
 
--- the four spellings of a setting mean the same, wherever they stand: a law that a public function promises
+-- the four spellings of a setting mean the same, wherever they are: a law that a public function promises
 abbrev pub SpellingsAgree : Type 0
-SpellingsAgree = (c : Command) (given : List Setting) (n : ℕ) (name : List ℕ) (f : Flag) (value : List ℕ) (words : List (List ℕ)) → found_in (flags_of c) name ≡ Some f → takes_value f value ≡ true
-    → HasOneMeaning c given n name f value words
+SpellingsAgree = (c : Command) (settings : List FlagSetting) (n : ℕ) (name : List ℕ) (f : Flag) (value : List ℕ) (words : List (List ℕ)) → found_in (flags_of c) name ≡ Some f → accepts f value ≡ true
+    → HasOneMeaning c settings n name f value words

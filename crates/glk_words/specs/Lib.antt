@@ -1,5 +1,6 @@
 pub mod Words
 pub mod Values
 pub mod Commands
-pub mod Order
+pub mod CommandLine
+pub mod Steps
 pub mod Laws

@@ -35,11 +35,11 @@ abbrev pub is_up_to : ℕ → Option ℕ → Bool
 is_up_to most None = false
 is_up_to most (Some n) = nat_le 1 n && nat_le n most
 
-abbrev pub most_workers : ℕ
-most_workers = 64
+abbrev pub worker_limit : ℕ
+worker_limit = 64
 
-abbrev pub most_functions : ℕ
-most_functions = 200000
+abbrev pub function_limit : ℕ
+function_limit = 200000
 
 -- the orders of symbols that nm knows
 abbrev pub sorts : List (List ℕ × SymbolOrder)

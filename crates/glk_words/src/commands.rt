@@ -1,10 +1,10 @@
 // The commands of golink with their flags.
 ghost use Rattle.std.specs.Prelude.{◌≡◌};
-ghost use Rattle.glk_words.specs.Commands.{commands, flags_of, takes_file, is_truth, takes_value};
+ghost use Rattle.glk_words.specs.Commands.{commands, flags_of, takes_file, is_truth, accepts};
 ghost use Rattle.glk_words.specs.Values.{found_in};
 ghost use Rattle.glk_words.specs.declared.commands.Command.TheVariants as command;
 
-use crate::values::{MOST_FUNCTIONS, MOST_WORKERS, is_up_to, number, order_named, truth};
+use crate::values::{FUNCTION_LIMIT, WORKER_LIMIT, is_up_to, number, order_named, truth};
 
 /// A command, the first word of a command line.
 #[derive(Clone, Copy, Debug, PartialEq, Eq)]
@@ -17,7 +17,7 @@ pub enum Command {
     Dump,
     /// Lists the symbols of an image.
     Nm,
-    /// Tells the functions and lines of addresses in an image.
+    /// Prints the functions and lines of addresses in an image.
     Addr2line,
     /// Makes a world of packages, links it, and prints a summary.
     Gen,
@@ -28,7 +28,7 @@ pub enum Command {
 pub enum Flag {
     /// `-o FILE`: the file to write.
     Out,
-    /// `-importcfg FILE`: where packages lie.
+    /// `-importcfg FILE`: the files of packages.
     ImportCfg,
     /// `-numbers FILE`: the numbers of relocation kinds.
     Numbers,
@@ -56,7 +56,7 @@ pub enum Flag {
     Sort,
     /// `-i`: with inlined frames.
     Inline,
-    /// `-seed N`: where the draws begin.
+    /// `-seed N`: the random seed.
     Seed,
     /// `-n N`: how many functions.
     Count,
@@ -133,7 +133,7 @@ fn link_flag(name: &str) -> Option<Flag>
 }
 
 impl Flag {
-    /// Whether the flag stands alone; a value, if any, stands behind `=`.
+    /// Whether the flag stands alone; its value, if any, follows an `=`.
     pub fn is_truth(self) -> bool
         ensures { result ≡ is_truth self }
     {
@@ -143,10 +143,10 @@ impl Flag {
         )
     }
 
-    /// Whether the flag takes this value.
-    #[tactic(auto, unfolding(crate::specs::Commands::takes_value))]
-    pub fn takes(self, value: &str) -> bool
-        ensures { result ≡ takes_value self value.now }
+    /// Whether the flag accepts this value.
+    #[tactic(auto, unfolding(crate::specs::Commands::accepts))]
+    pub fn accepts(self, value: &str) -> bool
+        ensures { result ≡ accepts self value.now }
     {
         match self {
             Flag::Out
@@ -159,11 +159,11 @@ impl Flag {
             Flag::Strip | Flag::OmitDwarf | Flag::ByAddress | Flag::Size | Flag::Inline => {
                 truth(value).is_some()
             }
-            Flag::Workers => is_up_to(MOST_WORKERS, number(value)),
+            Flag::Workers => is_up_to(WORKER_LIMIT, number(value)),
             Flag::BuildMode => value == "exe",
             Flag::Sort => order_named(value).is_some(),
             Flag::Seed => number(value).is_some(),
-            Flag::Count => is_up_to(MOST_FUNCTIONS, number(value)),
+            Flag::Count => is_up_to(FUNCTION_LIMIT, number(value)),
         }
     }
 }

@@ -4,10 +4,10 @@ ghost use Rattle.std.specs.Str.{all_ascii_digits};
 ghost use Rattle.glk_words.specs.Values.{found_in, truth_of, number_of as number_by, is_spelled as is_one_spelling, is_up_to as is_within, sorts};
 
 /// The most threads that work at once.
-pub const MOST_WORKERS: u64 = 64;
+pub const WORKER_LIMIT: u64 = 64;
 
 /// The most functions of a world that is made.
-pub const MOST_FUNCTIONS: u64 = 200_000;
+pub const FUNCTION_LIMIT: u64 = 200_000;
 
 /// The order in which nm lists symbols.
 #[derive(Clone, Copy, Debug, PartialEq, Eq)]

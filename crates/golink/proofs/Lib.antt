@@ -1,4 +1,1 @@
-pub mod Given
-pub mod Due
-pub mod Made
-pub mod Shown
+pub mod SomeWords

@@ -2,22 +2,9 @@
 #![tactic(auto)]
 
 mod arguments;
-mod dumping;
-mod help;
-mod inputs;
-mod laws;
-mod linking;
-mod making;
-mod outcome;
-mod printing;
-mod refusals;
-mod report;
-mod run;
-#[cfg(test)]
-mod tests;
-mod wording;
 
 use glk_io::{OsFiles, OsSink, OsSource};
+use glk_run::{report, run};
 use std::process::ExitCode;
 
 fn main(rt: HostRuntime) -> ExitCode {
@@ -25,14 +12,18 @@ fn main(rt: HostRuntime) -> ExitCode {
     let words = match arguments::arguments(&rt, rt.alloc()) {
         Ok(words) => words,
         Err(outcome) => {
-            report::report(&mut err, &outcome);
+            report(&mut err, &outcome);
             return ExitCode::from(outcome.status());
         }
     };
-    let mut files = OsFiles::for_programs(&rt);
+    let mut files = if makes_program(&words) {
+        OsFiles::for_programs(&rt)
+    } else {
+        OsFiles::new(&rt)
+    };
     let mut input = OsSource::new(rt.stdin());
     let mut out = OsSink::new(rt.stdout());
-    let outcome = run::run(
+    let outcome = run(
         &rt,
         rt.alloc(),
         &words,
@@ -42,4 +33,12 @@ fn main(rt: HostRuntime) -> ExitCode {
         &mut err,
     );
     ExitCode::from(outcome.status())
+}
+
+// Whether what the words write is a program, which can be run. An archive can't.
+fn makes_program(words: &[String]) -> bool {
+    match words.first() {
+        Some(command) => command.as_str() == "link",
+        None => false,
+    }
 }

@@ -1,16 +1,16 @@
 // Package files in bytes: bare objects that import packages, and worlds of them.
 use crate::Config;
-use glk_io::{CallFail, Files, MemFiles};
+use glk_io::{Files, MemFiles};
 use std::alloc::Global;
 use std::test::Fail;
 
-/// The line of the objects here.
+// The line of the objects here.
 pub const LINE: &str = "go object linux amd64 t";
 
-/// How many bytes stand before the first string of an object.
+// The bytes before the first string of an object.
 const HEADER: usize = 96;
 
-/// An object: a fingerprint of eight equal bytes, how many symbols it has, and what it imports.
+// An object: a fingerprint of eight equal bytes, how many symbols it has, and what it imports.
 #[derive(Drop)]
 pub struct Object {
     print: u8,
@@ -19,13 +19,13 @@ pub struct Object {
     entries: Vec<u8>,
 }
 
-/// Pushes a number of four bytes.
+// Pushes a number of four bytes.
 fn push_number(bytes: &mut Vec<u8>, n: usize) -> Result<(), Fail> {
     bytes.extend_from_slice(&n.to_le_bytes()[..4])?;
     Ok(())
 }
 
-/// Pushes a number of four bytes so many times.
+// Pushes a number of four bytes `times` times.
 fn push_numbers(bytes: &mut Vec<u8>, n: usize, times: usize) -> Result<(), Fail> {
     for _ in 0..times {
         push_number(bytes, n)?;
@@ -43,7 +43,7 @@ impl Object {
         }
     }
 
-    /// It imports a package, of which it wants a fingerprint of eight equal bytes.
+    // It imports a package, of which it wants a fingerprint of eight equal bytes.
     pub fn import(&mut self, name: &[u8], print: u8) -> Result<(), Fail> {
         push_number(&mut self.entries, name.len())?;
         push_number(&mut self.entries, self.names.len().saturating_add(HEADER))?;
@@ -52,7 +52,7 @@ impl Object {
         Ok(())
     }
 
-    /// Where its blocks begin.
+    // Where its blocks begin.
     fn push_places(&self, file: &mut Vec<u8>) -> Result<(), Fail> {
         let autolib = self.names.len().saturating_add(HEADER);
         let packages = autolib.saturating_add(self.entries.len());
@@ -69,7 +69,7 @@ impl Object {
         push_numbers(file, hashed.saturating_add(table.saturating_mul(3)), 5)
     }
 
-    /// Its file, with this line before it.
+    // Its file, with this line before it.
     pub fn file(&self, alloc: Global, line: &str) -> Result<Vec<u8>, Fail> {
         let mut file = line.as_bytes().to_vec(alloc)?;
         file.extend_from_slice(b"\n!\n\x00go120ld")?;
@@ -93,7 +93,7 @@ impl Object {
     }
 }
 
-/// Puts bytes at a path.
+// Puts bytes at a path.
 pub fn put(alloc: Global, files: &mut MemFiles, path: &str, bytes: &[u8]) -> Result<(), Fail> {
     match files.write_file(alloc, path, bytes) {
         Ok(()) => Ok(()),
@@ -101,7 +101,7 @@ pub fn put(alloc: Global, files: &mut MemFiles, path: &str, bytes: &[u8]) -> Res
     }
 }
 
-/// A path and its fingerprint: `p#3` is p with 0x33 eight times, and `p` has none.
+// A path and its fingerprint: `p#3` is p with 0x33 eight times, and `p` has none.
 fn word(text: &str) -> (&str, u8) {
     match text.split_once('#') {
         Some((path, print)) => match print.as_bytes().first() {
@@ -112,7 +112,7 @@ fn word(text: &str) -> (&str, u8) {
     }
 }
 
-/// Puts the package of a line: its path, and what it imports. All but `main` are listed.
+// Puts the package of a line: its path, and what it imports. All but `main` are listed.
 fn put_package(
     alloc: Global,
     files: &mut MemFiles,
@@ -139,8 +139,8 @@ fn put_package(
     Ok(())
 }
 
-/// Lists a package, whose file is at its path.
-pub fn list(text: &mut Vec<u8>, path: &str) -> Result<(), Fail> {
+// Lists a package, whose file is at its path.
+fn list(text: &mut Vec<u8>, path: &str) -> Result<(), Fail> {
     text.extend_from_slice(b"packagefile ")?;
     text.extend_from_slice(path.as_bytes())?;
     text.extend_from_slice(b"=")?;
@@ -149,14 +149,9 @@ pub fn list(text: &mut Vec<u8>, path: &str) -> Result<(), Fail> {
     Ok(())
 }
 
-/// Files of packages, one a line, and a configuration that lists all but `main`. This call fails.
-pub fn world_of(alloc: Global, packages: &str, fails: u64) -> Result<(MemFiles, Config), Fail> {
-    let mut calls = Vec::new(alloc);
-    calls.push(CallFail {
-        call: fails,
-        kept: 0,
-    })?;
-    let mut files = MemFiles::new(Vec::new(alloc), calls);
+// Files of packages, one a line, and a configuration that lists all but `main`.
+pub fn world_of(alloc: Global, packages: &str) -> Result<(MemFiles, Config), Fail> {
+    let mut files = MemFiles::new(Vec::new(alloc), Vec::new(alloc));
     let mut text = Vec::new(alloc);
     for line in packages.split('\n') {
         put_package(alloc, &mut files, &mut text, line)?;

@@ -1,4 +1,4 @@
-use Rattle.glk_ar.proofs.Front.{walk_start, walk_more, walk_end, walk_refused}
+use Rattle.glk_ar.proofs.WholeWalks.{walk_start, walk_more, walk_end, walk_refused}
 use Rattle.glk_ar.proofs.laws.walks_are_whole.Goals as goal
 
 pub returns-clause-start : goal.returns-clause-start

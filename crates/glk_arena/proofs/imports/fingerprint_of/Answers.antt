@@ -3,7 +3,7 @@ use Rattle.std.specs.List.{position}
 use Rattle.std.specs.Str.{bytes_eq}
 use Rattle.glk_arena.specs.World.{Package, paths_of}
 use Rattle.glk_arena.specs.Imports.{package_fingerprint}
-use Rattle.glk_arena.specs.ImportPlaces.{no_package}
+use Rattle.glk_arena.specs.ImportRefs.{no_package}
 use Rattle.glk_arena.proofs.PathLemmas.{position_map, find_found}
 use Rattle.glk_arena.proofs.ImportLemmas.{print_found, print_none}
 use Rattle.glk_arena.proofs.imports.fingerprint_of.Goals as goal

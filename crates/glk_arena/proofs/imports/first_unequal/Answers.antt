@@ -1,29 +1,29 @@
 use Rattle.std.proofs.Common.{◌∙◌, ◌&&◌, Bool, Some, cond, ap, sym, take, drop, arith, ◌+◌}
 use Rattle.std.specs.List.{find}
-use Rattle.glk_arena.specs.Imports.{Import, imports_of, is_due, is_unequal}
-use Rattle.glk_arena.specs.ImportPlaces.{import_view}
+use Rattle.glk_arena.specs.Imports.{Import, imports_of, is_compared, is_unequal}
+use Rattle.glk_arena.specs.ImportRefs.{import_view}
 use Rattle.glk_arena.proofs.PathLemmas.{find_step, find_end}
-use Rattle.glk_arena.proofs.PlaceLemmas.{place_is, places_long}
+use Rattle.glk_arena.proofs.ImportRefLemmas.{place_is, refs_long}
 use Rattle.glk_arena.proofs.imports.first_unequal.Goals as goal
 
 pub returns-then-is_refused : goal.returns-then-is_refused
 returns-then-is_refused c =
     let i : Import = import_view c.import_at-import.result in
-    let there = place_is c.args.list.now c.args.places.now c.loop-k.k _ i c.requires.places c.loop-k-test.true c.import_at-import.ensures in
-    let test : Import → Bool = λ j. is_due (take c.args.earlier c.args.names.now) c.args.names.now j && is_unequal c.args.list.now j in
+    let there = place_is c.args.list.now c.args.refs.now c.loop-k.k _ i c.requires.refs c.loop-k-test.true c.import_at-import.ensures in
+    let test : Import → Bool = λ j. is_compared (take c.args.earlier c.args.names.now) c.args.names.now j && is_unequal c.args.list.now j in
     let step = find_step test (imports_of c.args.list.now) c.loop-k.k i there.0 (there.1 i) in
     sym (step ∙ ap (λ b. cond b (Some i) (find test (drop (c.loop-k.k + 1) (imports_of c.args.list.now)))) (sym c.is_refused.ensures ∙ c.if-is_refused.true)) ∙ c.loop-k.invariant
 
 pub loop-k-preserved : goal.loop-k-preserved
 loop-k-preserved c =
     let i : Import = import_view c.import_at-import.result in
-    let there = place_is c.args.list.now c.args.places.now c.loop-k.k _ i c.requires.places c.loop-k-test.true c.import_at-import.ensures in
-    let test : Import → Bool = λ j. is_due (take c.args.earlier c.args.names.now) c.args.names.now j && is_unequal c.args.list.now j in
+    let there = place_is c.args.list.now c.args.refs.now c.loop-k.k _ i c.requires.refs c.loop-k-test.true c.import_at-import.ensures in
+    let test : Import → Bool = λ j. is_compared (take c.args.earlier c.args.names.now) c.args.names.now j && is_unequal c.args.list.now j in
     let step = find_step test (imports_of c.args.list.now) c.loop-k.k i there.0 (there.1 i) in
     sym (step ∙ ap (λ b. cond b (Some i) (find test (drop (c.loop-k.k + 1) (imports_of c.args.list.now)))) (sym c.is_refused.ensures ∙ c.if-is_refused.false)) ∙ c.loop-k.invariant
 
 pub returns : goal.returns
 returns c =
-    let test : Import → Bool = λ j. is_due (take c.args.earlier c.args.names.now) c.args.names.now j && is_unequal c.args.list.now j in
-    let long = places_long c.args.list.now c.args.places.now c.requires.places in
+    let test : Import → Bool = λ j. is_compared (take c.args.earlier c.args.names.now) c.args.names.now j && is_unequal c.args.list.now j in
+    let long = refs_long c.args.list.now c.args.refs.now c.requires.refs in
     sym (find_end test (imports_of c.args.list.now) c.loop-k.k (omega (arith, long, c.loop-k-test.false))) ∙ c.loop-k.invariant

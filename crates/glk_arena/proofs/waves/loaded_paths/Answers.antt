@@ -2,7 +2,7 @@ use Rattle.std.proofs.Common.{◌≡◌, ◌<◌, ◌∙◌, ◌++◌, ◌∷◌
 use Rattle.std.proofs.Math.Seq.{take-suc}
 use Rattle.std.proofs.lemmas.List.{get_or-map, length-map}
 use Rattle.glk_arena.specs.World.{Package, paths_of}
-use Rattle.glk_arena.specs.ImportPlaces.{no_package}
+use Rattle.glk_arena.specs.ImportRefs.{no_package}
 use Rattle.glk_arena.proofs.waves.loaded_paths.Goals as goal
 
 pub loop-p-preserved : goal.loop-p-preserved

@@ -1,61 +1,62 @@
-use Rattle.std.proofs.Common.{◌≡◌, ◌∙◌, ℕ, List, Option, Some, None, length, drop, ap, sym, arith}
-use Rattle.std.specs.Option.{option_or}
-use Rattle.glk_base.specs.declared.cause.Cause.{Cause}
-use Rattle.glk_io.specs.Contents.{Contents}
+use Rattle.std.proofs.Common.{◌≡◌, ◌∙◌, ℕ, List, Option, Some, None, length, ap, sym, arith}
+use Rattle.glk_cause.specs.declared.cause.Cause.{Cause}
 use Rattle.glk_arena.specs.World.{Package}
-use Rattle.glk_arena.specs.Imports.{imports_of}
-use Rattle.glk_arena.specs.LoadParts.{told_by, unequal_from, missing_from}
-use Rattle.glk_arena.proofs.PlaceLemmas.{places_moved, places_grow}
-use Rattle.glk_arena.proofs.WaveSteps.{wave_read, wave_faulted, wave_refused, wave_done}
+use Rattle.glk_arena.specs.Waves.{LoadInputs}
+use Rattle.glk_arena.specs.LoadParts.{inputs_of, import_refusal_of}
+use Rattle.glk_arena.proofs.ImportRefLemmas.{refs_moved, refs_grow}
+use Rattle.glk_arena.proofs.WaveSteps.{err_exit, wave_read, wave_faulted, wave_refused, wave_done}
 use Rattle.glk_arena.proofs.waves.one_wave.Goals as goal
 
-pub returns-in-Err-clause-err : goal.returns-in-Err-clause-err
-returns-in-Err-clause-err g c =
-    wave_faulted c.args.main.now c.args.config.now _ c.args.names.now c.args.list c.args.places.now.items c.args.compared _ _ c.in-Err.fault c.requires c.in-Err.ensures.err
+pub returns-in_err-now-clause-err : goal.returns-in_err-now-clause-err
+returns-in_err-now-clause-err g c =
+    err_exit _ c.from_residual.result c.in_err-now.field-0.0 c.from_residual.ensures.1
+    (wave_faulted (inputs_of c.args.main.now c.args.config.now) _ _ c.args.names.now c.args.list c.args.refs.now.items c.args.compared c.in_err-now.field-0.0 c.requires c.in_err-now.ensures.err)
 
-pub add_imports-requires-clause-places : goal.add_imports-requires-clause-places
-add_imports-requires-clause-places g c =
-    let read = c.in-Ok.ensures.ok in
-    places_moved c.args.list read.adds.wave c.in-Ok.now c.packages-earlier.result c.args.places.now.items read.adds.now_is c.packages-earlier.ensures.value c.requires.places_are
+pub add_imports-requires-clause-refs : goal.add_imports-requires-clause-refs
+add_imports-requires-clause-refs g c =
+    let read = c.in_ok-now.ensures.ok in
+    refs_moved c.args.list read.adds.wave c.in_ok-now.now c.packages-earlier.result c.args.refs.now.items read.adds.now_is c.packages-earlier.ensures.value c.requires.refs_are
 
 pub import_refusal-requires-clause-paths : goal.import_refusal-requires-clause-paths
 import_refusal-requires-clause-paths g c =
-    (wave_read c.args.main.now c.args.config.now _ c.args.names.now c.args.list c.in-Ok.now c.args.places.now.items c.args.compared c.requires c.in-Ok.ensures.ok).paths
+    (wave_read (inputs_of c.args.main.now c.args.config.now) _ c.args.names.now c.args.list c.in_ok-now.now c.args.refs.now.items c.args.compared c.requires c.in_ok-now.ensures.ok).paths
 
 pub import_refusal-requires-clause-known : goal.import_refusal-requires-clause-known
 import_refusal-requires-clause-known g c =
-    let read = c.in-Ok.ensures.ok in
-    let grow = places_grow c.args.list read.adds.wave c.in-Ok.now c.args.places.now.items c.add_imports.new.places.items read.adds.now_is c.requires.places_are c.in_ok-add_imports.ensures in
-    omega (arith, grow, c.len-known.ensures, c.args.places.now.ok.0, ap length c.deref.ensures.value)
+    let read = c.in_ok-now.ensures.ok in
+    let grow = refs_grow c.args.list read.adds.wave c.in_ok-now.now c.args.refs.now.items c.add_imports.new.refs.items read.adds.now_is c.requires.refs_are c.in_ok-add_imports.ensures in
+    omega (arith, grow, c.len-known.ensures, c.args.refs.now.ok.0, ap length c.deref.ensures.value)
 
 pub returns-in-Some-clause-err : goal.returns-in-Some-clause-err
 returns-in-Some-clause-err g c =
-    let now : List Package = c.in-Ok.now in
+    let inputs : LoadInputs = inputs_of c.args.main.now c.args.config.now in
+    let now : List Package = c.in_ok-now.now in
     let names : List (List ℕ) = c.args.names.now in
     let earlier : c.packages-earlier.result ≡ length c.args.list = c.packages-earlier.ensures.value in
-    let known : c.len-known.result ≡ length c.args.places.now.items = omega (arith, c.len-known.ensures, c.args.places.now.ok.0) in
-    let due : ℕ → ℕ → Contents → Option Cause = λ e k held. option_or (unequal_from now names e (drop c.args.compared (imports_of now))) (missing_from (told_by c.args.main.now c.args.config.now held) names (drop k (imports_of now))) in
-    let some : (held : Contents) → Some c.in-Some.refusal ≡ due (length c.args.list) (length c.args.places.now.items) held =
-    λ held. sym c.in-Some.is ∙ c.in_ok-refusal.ensures c.args.main.now held ∙ ap (λ (e : ℕ). due e c.len-known.result held) earlier ∙ ap (λ (k : ℕ). due (length c.args.list) k held) known in
-    wave_refused c.args.main.now c.args.config.now _ names c.args.list now c.args.places.now.items c.args.compared _ _ c.in-Some.refusal c.requires c.in-Ok.ensures.ok some
+    let known : c.len-known.result ≡ length c.args.refs.now.items = omega (arith, c.len-known.ensures, c.args.refs.now.ok.0) in
+    let due : ℕ → ℕ → Option Cause = λ e k. import_refusal_of now inputs.listed names e c.args.compared k in
+    let some : Some c.in-Some.refusal ≡ due (length c.args.list) (length c.args.refs.now.items) =
+    sym c.in-Some.is ∙ c.in_ok-refusal.ensures ∙ ap (λ (e : ℕ). due e c.len-known.result) earlier ∙ ap (λ (k : ℕ). due (length c.args.list) k) known in
+    wave_refused inputs _ _ names c.args.list now c.args.refs.now.items c.args.compared c.in-Some.refusal c.in_ok-now.ensures.same c.requires c.in_ok-now.ensures.ok some
 
-pub list_imports-requires-clause-from : goal.list_imports-requires-clause-from
-list_imports-requires-clause-from g c =
-    let read = c.in-Ok.ensures.ok in
-    let grow = places_grow c.args.list read.adds.wave c.in-Ok.now c.args.places.now.items c.add_imports.new.places.items read.adds.now_is c.requires.places_are c.in_ok-add_imports.ensures in
-    omega (arith, grow, c.len-known.ensures, c.args.places.now.ok.0, ap length c.deref-2.ensures.value)
+pub queue_imports-requires-clause-from : goal.queue_imports-requires-clause-from
+queue_imports-requires-clause-from g c =
+    let read = c.in_ok-now.ensures.ok in
+    let grow = refs_grow c.args.list read.adds.wave c.in_ok-now.now c.args.refs.now.items c.add_imports.new.refs.items read.adds.now_is c.requires.refs_are c.in_ok-add_imports.ensures in
+    omega (arith, grow, c.len-known.ensures, c.args.refs.now.ok.0, ap length c.deref-2.ensures.value)
 
 pub returns-clause-ok : goal.returns-clause-ok
 returns-clause-ok g c =
-    let now : List Package = c.in-Ok.now in
+    let inputs : LoadInputs = inputs_of c.args.main.now c.args.config.now in
+    let now : List Package = c.in_ok-now.now in
     let names : List (List ℕ) = c.args.names.now in
-    let read = c.in-Ok.ensures.ok in
-    let grow = places_grow c.args.list read.adds.wave now c.args.places.now.items c.add_imports.new.places.items read.adds.now_is c.requires.places_are c.in_ok-add_imports.ensures in
+    let read = c.in_ok-now.ensures.ok in
+    let grow = refs_grow c.args.list read.adds.wave now c.args.refs.now.items c.add_imports.new.refs.items read.adds.now_is c.requires.refs_are c.in_ok-add_imports.ensures in
     let earlier : c.packages-earlier.result ≡ length c.args.list = c.packages-earlier.ensures.value in
-    let known : c.len-known.result ≡ length c.args.places.now.items = omega (arith, c.len-known.ensures, c.args.places.now.ok.0) in
-    let due : ℕ → ℕ → Contents → Option Cause = λ e k held. option_or (unequal_from now names e (drop c.args.compared (imports_of now))) (missing_from (told_by c.args.main.now c.args.config.now held) names (drop k (imports_of now))) in
-    let none : (held : Contents) → None ≡ due (length c.args.list) (length c.args.places.now.items) held =
-    λ held. sym c.in-None.is ∙ c.in_ok-refusal.ensures c.args.main.now held ∙ ap (λ (e : ℕ). due e c.len-known.result held) earlier ∙ ap (λ (k : ℕ). due (length c.args.list) k held) known in
-    let listed = rw known at c.in_ok-list_imports.ensures in
-    wave_done c.args.main.now c.args.config.now _ names c.list_imports.new.names c.args.list now c.args.places.now.items c.add_imports.new.places.items c.args.compared c.requires read
+    let known : c.len-known.result ≡ length c.args.refs.now.items = omega (arith, c.len-known.ensures, c.args.refs.now.ok.0) in
+    let due : ℕ → ℕ → Option Cause = λ e k. import_refusal_of now inputs.listed names e c.args.compared k in
+    let none : None ≡ due (length c.args.list) (length c.args.refs.now.items) =
+    sym c.in-None.is ∙ c.in_ok-refusal.ensures ∙ ap (λ (e : ℕ). due e c.len-known.result) earlier ∙ ap (λ (k : ℕ). due (length c.args.list) k) known in
+    let listed = rw known at c.in_ok-queue_imports.ensures in
+    wave_done inputs _ names c.queue_imports.new.names c.args.list now c.args.refs.now.items c.add_imports.new.refs.items c.args.compared c.requires read
     c.in_ok-add_imports.ensures grow none listed

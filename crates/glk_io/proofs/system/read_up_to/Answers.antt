@@ -11,8 +11,8 @@ all_of : (left : Option (List ℕ)) (limit max : ℕ) (bytes : Vec ℕ Global)
 all_of None limit max bytes is lt = tt
 all_of (Some xs) limit max bytes is lt = grind (arith, common_steps)
 
-pub returns-in-Ok-2-clause-told : goal.returns-in-Ok-2-clause-told
-returns-in-Ok-2-clause-told g c =
+pub returns-in-Ok-2-clause-whole : goal.returns-in-Ok-2-clause-whole
+returns-in-Ok-2-clause-whole g c =
     let read = rw (c.in-Ok.ensures.items, c.take.ensures.inner) at c.in-Ok-2.ensures.bytes in
     let below : length c.read_to_end.new.buf.items < c.take.result.limit = grind (arith, common_steps) in
     all_of (g.S.Read.remaining c.args.file) c.take.result.limit c.args.max c.read_to_end.new.buf read below

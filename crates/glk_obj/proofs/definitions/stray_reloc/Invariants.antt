@@ -1,7 +1,7 @@
 use Rattle.std.proofs.Common.{◌<◌}
 use Rattle.glk_obj.specs.Records.{definitions}
 use Rattle.glk_obj.specs.Rules.{RelocFault}
-use Rattle.glk_obj.proofs.LeastPlaces.{NoneBelow}
+use Rattle.glk_obj.proofs.LeastOffsets.{NoneBelow}
 use Rattle.glk_obj.proofs.definitions.stray_reloc.Given as goal
 
 abbrev pub invariant-loop-i : goal.invariant-loop-i

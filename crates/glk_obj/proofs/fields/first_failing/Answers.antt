@@ -1,16 +1,16 @@
 use Rattle.std.proofs.Common.{arith, refl}
 use Rattle.std.proofs.lemmas.Bool.{false≢true}
-use Rattle.glk_obj.proofs.LeastPlaces.{none_more, none_at_all}
-use Rattle.glk_obj.proofs.FieldPlaces.{first_field, field_block, by_record}
+use Rattle.glk_obj.proofs.LeastOffsets.{none_more, none_at_all}
+use Rattle.glk_obj.proofs.FieldOffsets.{first_field, field_block, by_record}
 use Rattle.glk_obj.proofs.fields.first_failing.Goals.{then-has_field+in-None, else-has_field}
 use Rattle.glk_obj.proofs.fields.first_failing.Goals as goal
 
 pub returns-in-Some : goal.returns-in-Some
-returns-in-Some g c = first_field c.args.bytes.now c.args.field (g.T.FieldTest.bad c.args.bytes.now) c.loop-t.t c.in-Some.found c.requires.laid (c.if-has_field.ensures.0 refl) c.loop-t.invariant c.in-Some.ensures
+returns-in-Some g c = first_field c.args.bytes.now c.args.field (g.T.FieldTest.bad c.args.bytes.now) c.loop-t.t c.in-Some.found c.requires.layout (c.if-has_field.ensures.0 refl) c.loop-t.invariant c.in-Some.ensures
 
 pub loop-t-preserved : goal.loop-t-preserved
-loop-t-preserved g c = none_more _ _ c.loop-t.t c.loop-t.invariant (λ place among fault. elim c.if-has_field.branch [
-  | then-has_field+in-None w ↦ w.in-None.ensures place fault
+loop-t-preserved g c = none_more _ _ c.loop-t.t c.loop-t.invariant (λ offset among fault. elim c.if-has_field.branch [
+  | then-has_field+in-None w ↦ w.in-None.ensures offset fault
   | else-has_field w ↦ absurd (false≢true (w.if-has_field.ensures.1 among))
 ])
 

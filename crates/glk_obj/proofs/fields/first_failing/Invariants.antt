@@ -1,5 +1,5 @@
 use Rattle.glk_obj.specs.Fields.{HasField, FailsIn}
-use Rattle.glk_obj.proofs.LeastPlaces.{NoneBelow}
+use Rattle.glk_obj.proofs.LeastOffsets.{NoneBelow}
 use Rattle.glk_obj.proofs.fields.first_failing.Given as goal
 
 abbrev pub invariant-loop-t : goal.invariant-loop-t

@@ -2,12 +2,12 @@ use Rattle.std.proofs.Common.{◌≡◌, ◌<◌, ◌∙◌, true, false, sym, a
 use Rattle.std.specs.Cmp.Lexicographic.{bytes_decides}
 use Rattle.std.specs.Str.{bytes_eq}
 use borrow.Author.Count.{below_more}
-use Rattle.glk_obj.specs.Numbers.{name_of, place_of}
-use Rattle.glk_obj.proofs.KindNumbers.{at_place, place_small}
+use Rattle.glk_obj.specs.Numbers.{name_of, index_of}
+use Rattle.glk_obj.proofs.KindNumbers.{at_index, index_small}
 use Rattle.glk_obj.proofs.numbers.kind_named.Goals as goal
 
-pub loop-place-preserved : goal.loop-place-preserved
-loop-place-preserved c = below_more _ _ c.loop-place.invariant (λ kind at is.
+pub loop-index-preserved : goal.loop-index-preserved
+loop-index-preserved c = below_more _ _ c.loop-index.invariant (λ kind at is.
     let same : c.at-kind.result ≡ kind = cc in
     let equal : c.name.result.now ≡ c.args.name.now = c.name.ensures ∙ ap name_of same ∙ sym is in
     let yes_ : bytes_eq c.name.result.now c.args.name.now ≡ true = (bytes_decides c.name.result.now c.args.name.now).1 equal in
@@ -15,4 +15,4 @@ loop-place-preserved c = below_more _ _ c.loop-place.invariant (λ kind at is.
     cc)
 
 pub returns : goal.returns
-returns c = λ kind is. let low : place_of kind < c.loop-place.place = omega (arith, place_small kind) in c.loop-place.invariant (place_of kind) low kind (at_place kind) is
+returns c = λ kind is. let low : index_of kind < c.loop-index.index = omega (arith, index_small kind) in c.loop-index.invariant (index_of kind) low kind (at_index kind) is

@@ -1,5 +1,5 @@
 use Rattle.std.proofs.Common.{arith}
-use Rattle.glk_obj.proofs.SymbolPlaces.{definitions_fill}
+use Rattle.glk_obj.proofs.SymbolOffsets.{definitions_fill}
 use Rattle.glk_obj.proofs.rules.definitions.Goals as goal
 
 pub overflow_sub-result : goal.overflow_sub-result

@@ -1,5 +1,5 @@
 use Rattle.glk_obj.specs.Rules.{IsTable, TableFault}
-use Rattle.glk_obj.proofs.LeastPlaces.{NoneBelow}
+use Rattle.glk_obj.proofs.LeastOffsets.{NoneBelow}
 use Rattle.glk_obj.proofs.tables.bad_entry.Given as goal
 
 abbrev pub invariant-loop-t : goal.invariant-loop-t

@@ -1,12 +1,12 @@
 use Rattle.std.proofs.Common.{◌≡◌, ◌+◌, ◌<◌, ◌^◌, length}
-use Rattle.glk_objdesc.specs.Canonical.{told}
+use Rattle.glk_objdesc.specs.Canonical.{clamped}
 use Rattle.glk_objdesc.specs.Sizes.{sum_of}
 use Rattle.glk_objdesc.proofs.sizes.sum_from.Given as goal
 
 abbrev pub invariant-loop-rest : goal.invariant-loop-rest
 invariant-loop-rest l = record {
   small : l.total < 2 ^ 64;
-  sum : told (l.total + sum_of l.rest) ≡ told (l.fn.before + sum_of l.lengths);
+  sum : clamped (l.total + sum_of l.rest) ≡ clamped (l.fn.before + sum_of l.lengths);
 }
 
 abbrev pub decreases-loop-rest : goal.decreases-loop-rest

@@ -1,6 +1,6 @@
 use Rattle.std.proofs.Common.{arith, ap}
 use Rattle.glk_objdesc.specs.Sizes.{total_of}
-use Rattle.glk_objdesc.proofs.Told.{total_four}
+use Rattle.glk_objdesc.proofs.Clamped.{total_four}
 use Rattle.glk_objdesc.proofs.WriteLemmas.{table_is}
 use Rattle.glk_objdesc.proofs.write.push_table.Goals as goal
 

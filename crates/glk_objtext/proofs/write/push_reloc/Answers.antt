@@ -1,10 +1,10 @@
 use Rattle.std.proofs.Common.{◌≡◌, to_z, of_z, w32, w64, rules}
-use Rattle.glk_objtext.specs.Text.{spelled}
+use Rattle.glk_objtext.specs.Text.{whole_line}
 use Rattle.glk_objtext.proofs.Joins.{five_field_line}
 use Rattle.glk_objtext.proofs.write.push_reloc.Goals as goal
 
 pub returns : goal.returns
-unfolding spelled
+unfolding whole_line
 returns c =
     let narrow : to_z w32 (of_z w32 c.args.r.off) ≡ c.args.r.off = search rules in
     let off : to_z w64 (of_z w64 c.args.r.off) ≡ c.args.r.off = search rules in

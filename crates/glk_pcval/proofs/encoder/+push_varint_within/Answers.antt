@@ -2,8 +2,8 @@ use Rattle.std.proofs.Common.{arith}
 use Rattle.glk_pcval.proofs.EncodeLemmas.{on_ok, appends_one, appends_more, room}
 use Rattle.glk_pcval.proofs.encoder.+push_varint_within.Goals as goal
 
-pub returns-then-number-group : goal.returns-then-number-group
-returns-then-number-group t c = appends_one c.args.most c.args.number _ _ (omega arith) c.requires.some c.in_ok-push.ensures.items
+pub returns-then-number-lt-GROUP : goal.returns-then-number-lt-GROUP
+returns-then-number-lt-GROUP t c = appends_one c.args.most c.args.number _ _ (omega arith) c.requires.some c.in_ok-push.ensures.items
 
 pub push_varint_within-requires : goal.push_varint_within-requires
 push_varint_within-requires t c =

@@ -1,4 +1,4 @@
-use Rattle.glk_tools.proofs.Dumped.{one_dump}
+use Rattle.glk_tools.proofs.DumpSteps.{one_dump}
 use Rattle.glk_tools.proofs.laws.one_dump.Goals as goal
 
 pub returns : goal.returns

@@ -1,8 +1,8 @@
 use Rattle.std.proofs.Common.{◌∙◌, [], get_or, ap, subst, ◌-◌}
 use Rattle.glk_obj.specs.Object.{IsObject}
-use Rattle.glk_arena.specs.ImportPlaces.{no_package}
+use Rattle.glk_arena.specs.ImportRefs.{no_package}
 use Rattle.glk_arena.proofs.WorldLemmas.{object_is}
-use Rattle.glk_arena.specs.ImportPlaces.{data_of}
+use Rattle.glk_arena.specs.ImportRefs.{data_of}
 use Rattle.glk_arena.proofs.list.PackageList.object.Goals as goal
 
 pub overflow_sub-n : goal.overflow_sub-n

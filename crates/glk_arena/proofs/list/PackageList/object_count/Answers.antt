@@ -2,7 +2,7 @@ use Rattle.std.proofs.Common.{◌≡◌, ◌<◌, ◌∙◌, get_or, ap, length,
 use Rattle.std.proofs.lemmas.List.{get_or_read}
 use Rattle.glk_arena.specs.World.{object_count}
 use Rattle.glk_arena.specs.Tables.{object_number}
-use Rattle.glk_arena.specs.ImportPlaces.{no_package}
+use Rattle.glk_arena.specs.ImportRefs.{no_package}
 use Rattle.glk_arena.proofs.WorldLemmas.{count_is, one_few}
 use Rattle.glk_arena.proofs.list.PackageList.object_count.Goals as goal
 

@@ -1,7 +1,7 @@
 use Rattle.std.proofs.Common.{◌<◌, ◌∙◌, sym, ap, subst, length, get_or, arith}
-use Rattle.glk_package.specs.Lines.{same}
+use Rattle.glk_package.specs.HeaderRule.{exactly}
 use Rattle.glk_arena.specs.World.{Package}
-use Rattle.glk_arena.specs.ImportPlaces.{no_package}
+use Rattle.glk_arena.specs.ImportRefs.{no_package}
 use Rattle.glk_arena.proofs.WorldLemmas.{no_object, no_line_is, first_line_is}
 use Rattle.glk_arena.proofs.list.PackageList.rule.Goals as goal
 
@@ -16,4 +16,4 @@ first_line-requires c =
 pub returns : goal.returns
 returns c =
     let first = first_line_is c.args.self.now c.package_of_object.result c.package_of_object.ensures.value (omega (arith, c.objects.ensures, c.if-objects-eq0.false)) in
-    ap same (c.first_line.ensures no_object ∙ ap (λ (p : Package). (get_or p.objects 0 no_object).line) (c.package.ensures no_package)) ∙ sym first.line_is
+    ap exactly (c.first_line.ensures no_object ∙ ap (λ (p : Package). (get_or p.objects 0 no_object).line) (c.package.ensures no_package)) ∙ sym first.line_is

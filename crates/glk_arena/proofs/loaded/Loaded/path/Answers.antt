@@ -1,7 +1,7 @@
 use Rattle.std.proofs.Common.{◌<◌, ◌∙◌, [], get_or, ap, length, sym, arith}
 use Rattle.std.proofs.lemmas.List.{get_or-map}
 use Rattle.glk_arena.specs.World.{paths_of}
-use Rattle.glk_arena.specs.ImportPlaces.{no_package}
+use Rattle.glk_arena.specs.ImportRefs.{no_package}
 use Rattle.glk_arena.proofs.loaded.Loaded.path.Goals as goal
 
 pub returns : goal.returns

@@ -2,7 +2,7 @@ use Rattle.std.proofs.Common.{◌≡◌, ◌∙◌, ℕ, List, [], take, get_or,
 use Rattle.std.specs.Option.{option_or}
 use Rattle.std.specs.Str.{bytes_eq}
 use Rattle.std.proofs.lemmas.List.{get_or_default, take_all}
-use Rattle.glk_base.specs.Paths.{escaped}
+use Rattle.glk_base.specs.Paths.{escaped_spelling}
 use Rattle.glk_arena.specs.Packages.{place_of_path, place_of_escaped}
 use Rattle.glk_arena.specs.PackageViews.{place_in}
 use Rattle.glk_arena.proofs.PackageLemmas.{path_more, escaped_more}
@@ -14,7 +14,7 @@ loop-i-preserved c =
     let i : ℕ = c.loop-i.i in
     let path : c.index-paths-i.result ≡ get_or paths i [] = c.index-paths-i.is ∙ get_or_default paths i c.index-paths-i.result [] c.loop-i-test.true in
     let plain : c.as_bytes.result.now ≡ get_or paths i [] = c.as_bytes.ensures ∙ path in
-    let spelled : c.as_bytes-in-loop-i-2.result.now ≡ escaped (get_or paths i []) = c.as_bytes-in-loop-i-2.ensures ∙ (c.in_ok-spelling.ensures ∙ ap escaped (c.as_bytes-in-loop-i.ensures ∙ path)) in
+    let spelled : c.as_bytes-in-loop-i-2.result.now ≡ escaped_spelling (get_or paths i []) = c.as_bytes-in-loop-i-2.ensures ∙ (c.in_ok-spelling.ensures ∙ ap escaped_spelling (c.as_bytes-in-loop-i.ensures ∙ path)) in
     record {
       plain = λ name. path_more paths i name (place_in c.loop-i.plain name) (place_in c.add.new.self name) c.loop-i-test.true (c.loop-i.invariant.plain name)
           (c.in_ok-add.ensures.each name ∙ ap (λ (l : List ℕ). option_or (place_in c.loop-i.plain name) (cond (bytes_eq name l) (Some i) None)) plain);

@@ -13,7 +13,7 @@ returns c =
     record {
       each = λ name.
           ap (lookup (λ k. bytes_eq name k.items)) entries
-          ∙ look_inserted (λ k. k.items) c.args.self.now.places.entries c.in_ok-key.key c.args.place name
+          ∙ look_inserted (λ k. k.items) c.args.self.now.refs.entries c.in_ok-key.key c.args.place name
           ∙ ap (λ k. cond (bytes_eq name k) (Some c.args.place) (place_in c.args.self.now name)) key
           ∙ put_first (place_in c.args.self.now) name c.args.spelling.now c.args.place c.requires;
     }

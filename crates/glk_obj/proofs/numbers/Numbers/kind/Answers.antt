@@ -8,9 +8,9 @@ pub returns-then-number : goal.returns-then-number
 returns-then-number c =
     let some : 0 < c.args.number = omega arith in
     let e : number_in c.args.self.now c.at-kind.result ≡ c.args.number = cc in
-    sym (some_kind c.args.self.now c.args.number some ∙ c.loop-place.invariant ∙ find_here (λ kind. eqb (number_in c.args.self.now kind) c.args.number) kinds c.loop-place.place c.at-kind.result c.at-kind.ensures (eq-eqb _ _ e))
+    sym (some_kind c.args.self.now c.args.number some ∙ c.loop-index.invariant ∙ find_here (λ kind. eqb (number_in c.args.self.now kind) c.args.number) kinds c.loop-index.index c.at-kind.result c.at-kind.ensures (eq-eqb _ _ e))
 
-pub loop-place-preserved : goal.loop-place-preserved
-loop-place-preserved c =
+pub loop-index-preserved : goal.loop-index-preserved
+loop-index-preserved c =
     let fails : eqb (number_in c.args.self.now c.at-kind.result) c.args.number ≡ false = false_from_ne_true (eqb (number_in c.args.self.now c.at-kind.result) c.args.number) (λ t. let e : number_in c.args.self.now c.at-kind.result ≡ c.args.number = eqb-true _ _ t in absurd (omega arith)) in
-    c.loop-place.invariant ∙ rw add-one (find_past (λ kind. eqb (number_in c.args.self.now kind) c.args.number) kinds c.loop-place.place c.at-kind.result c.at-kind.ensures fails)
+    c.loop-index.invariant ∙ rw add-one (find_past (λ kind. eqb (number_in c.args.self.now kind) c.args.number) kinds c.loop-index.index c.at-kind.result c.at-kind.ensures fails)

@@ -17,7 +17,7 @@ invariant_of-result c =
     let end = rw i.key_is at c.close_with-closed.ensures.values.2 in
     let words = slots_items c.close_with-closed.result.words in
     let done = closes t.size s.id v words (slots_items c.close_with-closed.result.slots) i.small c.requires.whole end in
-    rw (c.of-last.ensures, c.in_ok-words.ensures) done
+    rw c.of-last.ensures (record { size = t.size; words = words; elects = done; arrays = c.in_ok-arrays.ensures })
 
 pub returns-clause-places : goal.returns-clause-places
 returns-clause-places c =

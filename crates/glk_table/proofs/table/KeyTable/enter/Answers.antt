@@ -1,10 +1,10 @@
-use Rattle.std.proofs.Common.{◌≡◌, ◌≢◌, ℕ, ◌+◌, ◌%◌, Bool, true, false, true≢false, List, length, sym, ap, ◌∙◌, subst, arith}
+use Rattle.std.proofs.Common.{◌≡◌, ◌≢◌, ℕ, Bool, true, false, true≢false, List, length, sym, ap, ◌∙◌, subst, arith}
 use Rattle.std.specs.Prelude.{IsTrue}
-use Rattle.std.proofs.Math.Nat.{mod-add-mod}
 use Rattle.glk_table.specs.Keys.{key_of, hash_of}
-use Rattle.glk_table.specs.Rule.{key_in, probe, Knowing}
+use Rattle.glk_table.specs.Rule.{key_in, Knowing}
 use Rattle.glk_table.specs.Seats.{TableFacts, view_of}
-use Rattle.glk_table.proofs.Steps.{Passed}
+use Rattle.glk_table.specs.Probing.{Passed}
+use Rattle.glk_table.proofs.Powers.{masked_below, place_of}
 use Rattle.glk_table.proofs.Sights.{more_trans, passed_next, not_full}
 use Rattle.glk_table.proofs.table.KeyTable.enter.Goals as goal
 
@@ -12,16 +12,13 @@ differ : (b : Bool) → b ≡ false → IsTrue b → ⊥
 differ true e h = true≢false e
 differ false e h = absurd (grind arith)
 
-pub nonzero_rem-start : goal.nonzero_rem-start
-nonzero_rem-start g c = c.self.invariant.some
-
 pub overflow_add-at : goal.overflow_add-at
 overflow_add-at g c =
-    let a = c.self.invariant.some in let b = c.self.invariant.small in let l = c.loop-step-test.true in omega arith
-
--- the place of a step, by the size that contracts see
-place_of : (n size h hash step : ℕ) → n ≡ size → h ≡ hash → (h % n + step) % n ≡ probe size hash step
-place_of n size h hash step e k = mod-add-mod h n step ∙ λ i. probe (e i) (k i) step
+    let a = c.self.invariant.some in
+    let b = c.self.invariant.small in
+    let l = c.loop-step-test.true in
+    let start = masked_below c.self.inside.size c.hash.result c.self.invariant.power in
+    omega arith
 
 pub probe-word-requires-clause-place : goal.probe-word-requires-clause-place
 probe-word-requires-clause-place g c =
@@ -29,7 +26,7 @@ probe-word-requires-clause-place g c =
     let keys : g.K.Keys.list c.args.keys.now ≡ (view_of c.loop-step.seat).keys = c.requires.keys ∙ sym c.loop-step.invariant.more.keys_is in
     let hashes : c.hash.result ≡ hash_of (view_of c.loop-step.seat).keys c.args.id = c.hash.ensures ∙ ap (λ ks. hash_of ks c.args.id) keys in
     let lt = c.loop-step-test.true in
-    (omega arith, place_of c.self.inside.size c.args.self.now.size c.hash.result (hash_of (view_of c.loop-step.seat).keys c.args.id) c.loop-step.step same hashes)
+    (omega arith, place_of c.self.inside.size c.args.self.now.size c.hash.result (hash_of (view_of c.loop-step.seat).keys c.args.id) c.loop-step.step c.self.invariant.power same hashes)
 
 pub probe-word-requires-clause-earlier : goal.probe-word-requires-clause-earlier
 probe-word-requires-clause-earlier g c =
@@ -56,7 +53,7 @@ loop-step-preserved g c =
     let keys : g.K.Keys.list c.args.keys.now ≡ old.keys = c.requires.keys in
     let hashes : c.hash.result ≡ hash_of old.keys c.args.id = c.hash.ensures ∙ ap (λ ks. hash_of ks c.args.id) keys in
     let same : c.self.inside.size ≡ size = ap (λ (x : TableFacts). x.size) c.self.view_is in
-    let place = place_of c.self.inside.size size c.hash.result (hash_of old.keys c.args.id) c.loop-step.step same hashes in
+    let place = place_of c.self.inside.size size c.hash.result (hash_of old.keys c.args.id) c.loop-step.step c.self.invariant.power same hashes in
     let word = c.probe-word.result in
     let apart : key_in old.keys word ≢ key_of old.keys c.args.id = λ e.
     let P : List (ℕ × ℕ) → Type 0 = λ ks. key_in ks word ≡ key_of ks c.args.id in

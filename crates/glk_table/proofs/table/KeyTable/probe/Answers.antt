@@ -1,10 +1,11 @@
 use Rattle.std.proofs.Common.{◌≡◌, ℕ, ◌+◌, ◌<◌, ◌≤◌, List, length, sym, ap, ◌∙◌, subst, arith}
 use Rattle.std.specs.Prelude.{Contains}
 use Rattle.glk_table.specs.Keys.{hash_of}
-use Rattle.glk_table.specs.Rule.{probe, saw, standing}
+use Rattle.glk_table.specs.Rule.{probe, saw, word_after}
 use Rattle.glk_table.specs.Seats.{TableFacts, view_of}
 use Rattle.glk_table.proofs.Filling.{at_below}
-use Rattle.glk_table.proofs.Steps.{looks, fills, Passed, standing_some}
+use Rattle.glk_table.proofs.Steps.{looks, fills, word_after_some}
+use Rattle.glk_table.specs.Probing.{Passed}
 use Rattle.glk_table.proofs.Sights.{saw_seat, saw_twice, saw_word, seat_of, passed_more}
 use Rattle.glk_table.proofs.table.KeyTable.probe.Goals as goal
 
@@ -46,12 +47,12 @@ compare_exchange-found-requires c =
 
 pub returns-then-found-eq0-clause-seat : goal.returns-then-found-eq0-clause-seat
 returns-then-found-eq0-clause-seat c =
-    saw_twice c.args.self.now c.args.seat.now c.load-word.new.seat c.compare_exchange-found.new.seat c.args.at c.load-word.result (standing c.compare_exchange-found.result (c.args.id + 1))
+    saw_twice c.args.self.now c.args.seat.now c.load-word.new.seat c.compare_exchange-found.new.seat c.args.at c.load-word.result (word_after c.compare_exchange-found.result (c.args.id + 1))
     c.requires.seat c.load-word.ensures.0 c.load-word.ensures.2.0 c.compare_exchange-found.ensures.0 c.compare_exchange-found.ensures.2.0
 
 pub returns-else-found-eq0-clause-seat : goal.returns-else-found-eq0-clause-seat
 returns-else-found-eq0-clause-seat c =
-    saw_twice c.args.self.now c.args.seat.now c.load-word.new.seat c.compare_exchange-found.new.seat c.args.at c.load-word.result (standing c.compare_exchange-found.result (c.args.id + 1))
+    saw_twice c.args.self.now c.args.seat.now c.load-word.new.seat c.compare_exchange-found.new.seat c.args.at c.load-word.result (word_after c.compare_exchange-found.result (c.args.id + 1))
     c.requires.seat c.load-word.ensures.0 c.load-word.ensures.2.0 c.compare_exchange-found.ensures.0 c.compare_exchange-found.ensures.2.0
 
 pub returns-else-found-eq0-clause-word : goal.returns-else-found-eq0-clause-word
@@ -60,6 +61,6 @@ returns-else-found-eq0-clause-word c =
     let n = c.compare_exchange-found.result in
     let more = saw_seat c.args.self.now c.args.seat.now s c.args.at c.load-word.result c.requires.seat c.load-word.ensures.0 c.load-word.ensures.2.0 in
     let is : c.compare_exchange-found.new.seat.me ≡ (saw c.args.at n (view_of s), s.me.1) =
-    c.compare_exchange-found.ensures.2.0 ∙ ap (λ (k : ℕ). (saw c.args.at k (view_of s), s.me.1)) (standing_some n (c.args.id + 1) c.if-found-eq0.false) in
+    c.compare_exchange-found.ensures.2.0 ∙ ap (λ (k : ℕ). (saw c.args.at k (view_of s), s.me.1)) (word_after_some n (c.args.id + 1) c.if-found-eq0.false) in
     let P : List (ℕ × ℕ) → Type 0 = λ ks. (0 < n) × (n ≤ length ks) × Contains (view_of c.compare_exchange-found.new.seat).seen (c.args.at, n) in
     subst P more.1.keys_is (saw_word s c.compare_exchange-found.new.seat c.args.at n c.if-found-eq0.false is c.compare_exchange-found.ensures.2.1)

@@ -1,5 +1,0 @@
-use Rattle.glk_arena.proofs.HeldLemmas.{held_whole}
-use Rattle.glk_arena.proofs.held.LoadedPackage.new.Goals as goal
-
-pub returns-clause-whole : goal.returns-clause-whole
-returns-clause-whole c = record { objects = held_whole c.args.file c.args.objects.items c.requires.each; fit = c.requires.fit }

@@ -1,7 +1,0 @@
-use Rattle.std.proofs.Common.{◌≡◌, take}
-use Rattle.std.specs.List.{sum_by}
-use Rattle.glk_obj.specs.Records.{symbols}
-use Rattle.glk_arena.proofs.held.LoadedPackage.symbols.Given as goal
-
-abbrev pub invariant-loop-i : goal.invariant-loop-i
-invariant-loop-i l = l.symbols ≡ sum_by (λ o. symbols o.goobj) (take l.i l.self.objects)

@@ -1,0 +1,94 @@
+// The objects of the files of a wave.
+ghost use Rattle.std.specs.Prelude.{◌≡◌, ◌≤◌, ◌+◌, length, drop, map, Ok, Err, IfOk, IfErr};
+ghost use Rattle.std.specs.List.{sum_by};
+ghost use Rattle.glk_package.specs.HeaderRule.{uniform, rule_after, rule_view};
+ghost use Rattle.glk_package.specs.Package.{PackageFile};
+ghost use Rattle.glk_arena.specs.World.{object_entries, file_bytes, package_limit};
+ghost use Rattle.glk_base.specs.Limits.{file_limit};
+ghost use Rattle.glk_arena.specs.Stored.{AreStored, IsWhole, stored_entry};
+ghost use Rattle.glk_arena.specs.LoadParts.{inputs_of, AppendsWave, HoldsStored, RefusesFormats, IsFormatRefusal, IsPackageIn};
+ghost use Rattle.glk_arena.specs.PackageRefusal.{IsRefusedFor};
+
+use crate::config::Config;
+use crate::list::PackageList;
+use crate::paths::PackagePaths;
+use crate::read_files::file_of;
+use crate::refusal::package_refusal;
+use crate::stored::{LoadedPackage, StoredObject, store_objects};
+use glk_base::{Fault, Text};
+use glk_cause::Cause;
+use glk_package::{HeaderRule, objects};
+use std::alloc::Global;
+use std::collections::VecDeque;
+
+// What is kept of the objects of the file at this path.
+fn parse_package(
+    alloc: Global,
+    lines: HeaderRule<'_>,
+    path: &[u8],
+    file: &[u8],
+) -> Result<Vec<StoredObject>, Fault<Cause>>
+    requires { length file.now ≤ file_limit }
+    ensures ok { IfOk result (λ kept. HoldsStored (rule_view lines.entry) file.now kept.items) }
+    ensures held { IfOk result (λ kept. AreStored file.now kept.items) }
+    ensures err { IfErr result (IsRefusedFor (IsFormatRefusal (rule_view lines.entry) file.now path.now)) }
+{
+    match objects(alloc, file, lines) {
+        Ok(packed) => {
+            let kept = store_objects(alloc, file, &packed)?;
+            Ok(kept)
+        }
+        Err(Fault::Bad(bad)) => Err(package_refusal(alloc, path, bad)),
+        Err(Fault::OutOfMemory) => Err(Fault::OutOfMemory),
+    }
+}
+
+// The package with this path, whose file is at that one.
+fn load_package(
+    alloc: Global,
+    lines: HeaderRule<'_>,
+    name: &[u8],
+    path: &[u8],
+    file: Text,
+) -> Result<LoadedPackage, Fault<Cause>>
+    requires { length file ≤ file_limit }
+    ensures ok { IfOk result (IsPackageIn (rule_view lines.entry) name.now file) }
+    ensures whole { IfOk result IsWhole }
+    ensures err { IfErr result (IsRefusedFor (IsFormatRefusal (rule_view lines.entry) file path.now)) }
+{
+    let name = Text::new(alloc, name)?;
+    match parse_package(alloc, lines, path, file.as_bytes()) {
+        Ok(kept) => Ok(LoadedPackage::new(name, file, kept)),
+        Err(fault) => Err(fault),
+    }
+}
+
+// The packages of a wave go after the earlier ones: those of the paths that are not loaded yet,
+// whose files these are.
+pub(crate) fn append_wave(
+    alloc: Global,
+    main: &str,
+    config: &Config,
+    names: &PackagePaths,
+    earlier: PackageList,
+    files: VecDeque<Text>,
+) -> Result<PackageList, Fault<Cause>>
+    requires all { length earlier + length files.items ≡ length names.now }
+    requires few { length names.now ≤ package_limit }
+    requires small { file_bytes earlier + sum_by length files.items ≤ file_limit }
+    ensures ok { IfOk result (AppendsWave (inputs_of main.now config.now) earlier names.now files.items) }
+    ensures err { IfErr result
+        (RefusesFormats (inputs_of main.now config.now) earlier names.now files.items) }
+{
+    let mut list = earlier;
+    let mut rest = files;
+    while let Some(file) = rest.pop_front() {
+        let name = names.get(list.packages() as usize);
+        let path = file_of(main, config, name).as_bytes();
+        match load_package(alloc, list.rule(), name, path, file) {
+            Ok(package) => list = list.push(package)?,
+            Err(fault) => return Err(fault),
+        }
+    }
+    Ok(list)
+}

@@ -1,0 +1,4 @@
+pub mod ChainLaws
+pub mod ReadingLaws
+pub mod WritingLaws
+pub mod PrintingLaws

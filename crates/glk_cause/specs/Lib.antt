@@ -1,0 +1,5 @@
+pub mod Sorts
+pub mod Chain
+pub mod Reading
+pub mod Writing
+pub mod Printing

@@ -1,0 +1,5 @@
+pub mod AtLemmas
+pub mod TreeLemmas
+pub mod FrameLemmas
+pub mod SearchLemmas
+pub mod BucketLemmas

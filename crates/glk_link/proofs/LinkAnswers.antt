@@ -1,0 +1,175 @@
+-- What the passes of a link say of its answer.
+use Rattle.std.proofs.Common.{◌≡◌, inl, inr, ℕ, List, Option, Some, None, refl, sym, ◌∙◌, ap, subst, Ok, Err}
+use Rattle.std.specs.Prelude.{Result, IsSome, ⊤}
+use Rattle.glk_base.specs.declared.fault.Fault.{Fault}
+use Rattle.glk_base.specs.declared.fault.Fault.TheVariants as fault
+use Rattle.glk_io.specs.Contents.{Contents, IfKnown}
+use Rattle.glk_io.specs.Changes.{FileState, FilesUnchanged}
+use Rattle.glk_cause.specs.declared.cause.Cause.{Cause}
+use Rattle.glk_cause.specs.declared.cause.Cause.TheVariants as cause
+use Rattle.glk_cause.specs.declared.cause.Form.TheVariants as form
+use Rattle.glk_cause.specs.Sorts.{Sort, by_reads, by_writes, of_file, of_package, of_input, of_config, of_options, of_link, foreign, sort_of}
+use Rattle.glk_cause.specs.Chain.{stops, goes_on, fails, holds, Answers}
+use Rattle.glk_cause.specs.Reading.{AnswersByReading}
+use Rattle.glk_cause.specs.Writing.{WritesWhole, OutputPartlyWritten, RefusesToWrite}
+use Rattle.glk_cause.proofs.ChainLaws.{RefusesOnly, then_only, demands_only, gives_only, finds_only}
+use Rattle.glk_cause.proofs.ReadingLaws.{known, always, always_known, IsPure, reading_stopped, reading_ends, reading_on}
+use Rattle.glk_cause.proofs.WritingLaws.{writing_stopped, writing_done, writing_failed}
+use Rattle.glk_arena.specs.World.{Package}
+use Rattle.glk_arena.specs.Waves.{IsLoad, IsOneLoad, IsPackagePath, IsOfPackages}
+use Rattle.glk_link.specs.declared.options.LinkOptions.{LinkOptions}
+use Rattle.glk_link.specs.declared.options.Report.{Report}
+use Rattle.glk_link.specs.Options.{AsksUnbuilt}
+use Rattle.glk_link.specs.Config.{Listing, IsConfigured, IsOfConfig}
+use Rattle.glk_link.specs.Passes.{Linked, LinksPackages, load_inputs, IsLink, report_of}
+use Rattle.glk_link.specs.Answers.{IsPackageFile, MayRefuse, LinkAnswer, MustAnswer, AnswersUnlessIoFails}
+use Rattle.glk_link.proofs.LinkOnce.{one_link}
+
+-- The table of answers is complete.
+
+module _ (one : IsOneLoad) (old new : FileState) (opts : LinkOptions) where
+  due : (files : Contents) (a b : Result Linked Cause) (r : Result Report (Fault Cause)) → IsLink files opts a → IsLink files opts b
+      → MustAnswer old new a r → MustAnswer old new b r
+  due files a b r x y h = subst (λ (c : Result Linked Cause). MustAnswer old new c r) (one_link one files opts a b x y) h
+
+  refusal_due : (refusal : Cause) → IfKnown old.contents (λ files. IsLink files opts (Err refusal)) → AnswersUnlessIoFails old new opts (Err (fault.Bad refusal))
+  refusal_due refusal h =
+      always_known _ _ old.contents (λ files is answer is_answer. due files (Err refusal) answer (Err (fault.Bad refusal)) is is_answer (λ reads. inl refl)) h
+
+  of_sort : (refusal : Cause) (s : Sort)
+      → RefusesToWrite old new (OutputPartlyWritten old new (λ files. IsLink files opts) opts.out (λ (linked : Linked). linked.image)) (IfKnown old.contents (λ files. IsLink files opts (Err refusal))) s
+      → AnswersUnlessIoFails old new opts (Err (fault.Bad refusal))
+  of_sort refusal (by_reads path count) h = always old.contents (λ files answer is. failed answer)
+    where
+      failed : (answer : Result Linked Cause) → MustAnswer old new answer (Err (fault.Bad refusal))
+      failed (Ok linked) = λ reads writes. absurd (reads h.0.rose)
+      failed (Err other) = λ reads. absurd (reads h.0.rose)
+  of_sort refusal (by_writes path count) h =
+      always_known _ _ old.contents (λ files is answer is_answer. due files (Ok is.0) answer (Err (fault.Bad refusal)) is.1 is_answer (λ reads writes. absurd (writes h.0.rose))) h.1
+  of_sort refusal (of_file path) h = refusal_due refusal h.1
+  of_sort refusal (of_package path) h = refusal_due refusal h.1
+  of_sort refusal (of_input path) h = refusal_due refusal h.1
+  of_sort refusal (of_config path) h = refusal_due refusal h.1
+  of_sort refusal of_options h = refusal_due refusal h.1
+  of_sort refusal of_link h = refusal_due refusal h.1
+  of_sort refusal foreign h = refusal_due refusal h.1
+
+  pub complete : (r : Result Report (Fault Cause)) → LinkAnswer old new opts r → AnswersUnlessIoFails old new opts r
+  complete (Ok report) h =
+      always_known _ _ old.contents (λ files is answer is_answer. due files (Ok is.0) answer (Ok report) is.1 is_answer (λ reads writes. inl (ap Ok is.3))) h.1
+  complete (Err (fault.Bad refusal)) h = of_sort refusal (sort_of refusal) h.1
+  complete (Err fault.OutOfMemory) h = always old.contents (λ files answer is. no_memory answer)
+    where
+      no_memory : (answer : Result Linked Cause) → MustAnswer old new answer (Err fault.OutOfMemory)
+      no_memory (Ok linked) = λ reads writes. inr refl
+      no_memory (Err refusal) = λ reads. inr refl
+
+-- What is asked for is not supported.
+
+pub unsupported : (state : FileState) (opts : LinkOptions) → AsksUnbuilt opts → LinkAnswer state state opts (Err (fault.Bad (cause.NotYet form.Flag)))
+unsupported state opts asks = (asks, (refl, always state.contents (λ held. stops (cause.NotYet form.Flag) (fails (λ built. built asks)))))
+
+-- Refusals of passes that read.
+
+-- the answer of a pass that reads, as one of the link
+refused : (old new : FileState) (opts : LinkOptions) (Al : Sort → Type 0) → ((s : Sort) → Al s → MayRefuse old.contents opts s) → ((path : List ℕ) (count : ℕ) → Al (by_writes path count) → ⊥)
+    → (e : Fault Cause) → AnswersByReading {C = Linked} old new Al (λ files. IsLink files opts) (λ l. l) (Err e) → LinkAnswer old new opts (Err e)
+refused old new opts Al more only e h =
+    writing_stopped (MayRefuse old.contents opts) (λ files. IsLink files opts) opts.out (λ (linked : Linked). linked.image) report_of old new Al (λ (l : Linked). l) more only e h
+
+-- the configuration is refused
+module _ (opts : LinkOptions) (built : AsksUnbuilt opts → ⊥) where
+  config_allows : (before : Option Contents) (s : Sort) → IsOfConfig opts.importcfg s → MayRefuse before opts s
+  config_allows before (by_reads path count) h = inl h
+  config_allows before (by_writes path count) h = absurd h
+  config_allows before (of_file path) h = inl h
+  config_allows before (of_package path) h = absurd h
+  config_allows before (of_input path) h = absurd h
+  config_allows before (of_config path) h = h
+  config_allows before of_options h = absurd h
+  config_allows before of_link h = tt
+  config_allows before foreign h = absurd h
+
+  pub not_configured : {C : Type 0} (view : C → Listing) (old new : FileState) (e : Fault Cause)
+      → AnswersByReading old new (IsOfConfig opts.importcfg) (λ held. IsConfigured held opts.importcfg) view (Err e) → LinkAnswer old new opts (Err e)
+  not_configured view old new e h =
+      refused old new opts (IsOfConfig opts.importcfg) (config_allows old.contents) (λ path count a. a) e
+      (reading_stopped old new (IsOfConfig opts.importcfg) (IsOfConfig opts.importcfg) (λ held. IsConfigured held opts.importcfg) (λ files. IsLink files opts) view (λ (l : Linked). l)
+      (λ s a. a) (always old.contents (λ files refusal c. goes_on opts _ (holds built) (stops refusal c))) e h)
+
+-- the packages are not loaded
+module _ (opts : LinkOptions) (built : AsksUnbuilt opts → ⊥) (listed : Listing) (old mid : FileState)
+    (bare : opts.importcfg ≡ None → (named : List ℕ) → listed named ≡ None)
+    (configured : FilesUnchanged old mid × IfKnown old.contents (λ files. IsConfigured files opts.importcfg (Ok listed))) where
+  is_given : (o : Option (List ℕ)) (named path : List ℕ) → (o ≡ None → listed named ≡ None) → listed named ≡ Some path → IsSome o
+  is_given (Some p) named path h is = refl
+  is_given None named path h is = let none = h refl in cc
+
+  package_file : (path : List ℕ) → IsPackagePath opts.main listed path → IsPackageFile old.contents opts path
+  package_file path (inl e) = inl e
+  package_file path (inr l) = inr (record {
+    given = is_given opts.importcfg l.0 path (λ none. bare none l.0) l.1;
+    listed = always_known _ _ old.contents (λ files c. (listed, c, (l.0, l.1))) configured.1;
+  })
+
+  packages_allow : (s : Sort) → IsOfPackages (load_inputs opts listed) s → MayRefuse old.contents opts s
+  packages_allow (by_reads path count) h = inr (package_file path h)
+  packages_allow (by_writes path count) h = absurd h
+  packages_allow (of_file path) h = inr (package_file path h)
+  packages_allow (of_package path) h = package_file path h
+  packages_allow (of_input path) h = absurd h
+  packages_allow (of_config path) h = absurd h
+  packages_allow of_options h = absurd h
+  packages_allow of_link h = tt
+  packages_allow foreign h = absurd h
+
+  pub not_loaded : (new : FileState) (e : Fault Cause)
+      → AnswersByReading {C = List Package} mid new (IsOfPackages (load_inputs opts listed)) (λ files. IsLoad (load_inputs opts listed) files) (λ w. w) (Err e)
+      → LinkAnswer old new opts (Err e)
+  not_loaded new e h =
+      refused old new opts (IsOfPackages (load_inputs opts listed)) packages_allow (λ path count a. a) e
+      (reading_stopped old new (IsOfPackages (load_inputs opts listed)) (IsOfPackages (load_inputs opts listed)) (λ files. IsLoad (load_inputs opts listed) files) (λ files. IsLink files opts) (λ (w : List Package). w) (λ (l : Linked). l)
+      (λ s a. a) (always_known _ _ old.contents (λ files c refusal l. goes_on opts _ (holds built) (goes_on listed _ c (stops refusal l))) configured.1) e
+      (reading_on (IsOfPackages (load_inputs opts listed)) (λ files. IsLoad (load_inputs opts listed) files) (λ (w : List Package). w) old mid new configured.0 (Err e) h))
+
+  -- what the packages come to, the link does
+  pub leads : (new : FileState) (world : List Package)
+      → AnswersByReading {C = List Package} mid new (IsOfPackages (load_inputs opts listed)) (λ files. IsLoad (load_inputs opts listed) files) (λ w. w) (Ok world)
+      → FilesUnchanged old new × IfKnown old.contents (λ files. (answer : Result Linked Cause) → LinksPackages opts.entry world answer → IsLink files opts answer)
+  leads new world h =
+      let loaded = reading_on (IsOfPackages (load_inputs opts listed)) (λ files. IsLoad (load_inputs opts listed) files) (λ (w : List Package). w) old mid new configured.0 (Ok world) h in
+      (loaded.0, known _ _ old.contents (always_known _ _ old.contents (λ files c l answer is. goes_on opts _ (holds built) (goes_on listed _ c (goes_on world _ l is))) configured.1) loaded.1)
+
+-- The passes over the packages refuse what they hold together.
+
+abbrev IsOfLink : Cause → Type 0
+IsOfLink refusal = sort_of refusal ≡ of_link
+
+packages_only : (entry : List ℕ) → RefusesOnly IsOfLink (LinksPackages entry)
+packages_only entry =
+    then_only IsOfLink (then_only IsOfLink (demands_only IsOfLink (λ world. refl)) (demands_only IsOfLink (λ world. refl)))
+    (then_only IsOfLink (demands_only IsOfLink (λ world. refl))
+    (then_only IsOfLink (then_only IsOfLink (demands_only IsOfLink (λ world. refl)) (gives_only IsOfLink))
+    (then_only IsOfLink (finds_only IsOfLink (λ k refusal u. subst IsOfLink (sym u.refusal_is) refl))
+    (then_only IsOfLink (demands_only IsOfLink (λ k. refl)) (gives_only IsOfLink)))))
+
+pub not_linked : {C : Type 0} (opts : LinkOptions) (old new : FileState) (world : List Package) (view : C → Linked) (e : Fault Cause)
+    → FilesUnchanged old new × IfKnown old.contents (λ files. (answer : Result Linked Cause) → LinksPackages opts.entry world answer → IsLink files opts answer)
+    → Answers (LinksPackages opts.entry world) view (Err e) → LinkAnswer old new opts (Err e)
+not_linked opts old new world view e loaded h =
+    refused old new opts (λ s. s ≡ of_link) (λ s a. subst (λ (t : Sort). MayRefuse old.contents opts t) (sym a) tt) (λ path count a. cc) e
+    (reading_stopped old new (λ s. s ≡ of_link) (λ s. s ≡ of_link) (λ files. IsLink files opts) (λ files. IsLink files opts) view (λ (l : Linked). l) (λ s a. a) (always old.contents (λ files refusal is. is)) e
+    (reading_ends old new (λ s. s ≡ of_link) (LinksPackages opts.entry world) (λ files. IsLink files opts) view loaded.0
+    (λ refusal is. (packages_only opts.entry world refusal is, subst (λ (t : Sort). IsPure t) (sym (packages_only opts.entry world refusal is)) tt))
+    loaded.1 (Err e) h))
+
+-- The write.
+
+module _ (opts : LinkOptions) (old mid new : FileState) (linked : Linked) (same : FilesUnchanged old mid) (is : IfKnown old.contents (λ files. IsLink files opts (Ok linked))) where
+  pub written : (report : Report) → report ≡ report_of linked → WritesWhole {C = Unit {0}} mid new opts.out linked.image (Ok tt) → LinkAnswer old new opts (Ok report)
+  written report rep h =
+      writing_done (MayRefuse old.contents opts) (λ files. IsLink files opts) opts.out (λ (l : Linked). l.image) report_of old mid new linked report same is rep h
+
+  pub not_written : (e : Fault Cause) → WritesWhole {C = Unit {0}} mid new opts.out linked.image (Err e) → LinkAnswer old new opts (Err e)
+  not_written e h =
+      writing_failed (MayRefuse old.contents opts) (λ files. IsLink files opts) opts.out (λ (l : Linked). l.image) report_of (Unit {0}) old mid new linked e (λ count. refl) same is h

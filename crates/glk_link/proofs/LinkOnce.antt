@@ -1,0 +1,134 @@
+-- There is one answer of a link.
+use Rattle.std.proofs.Common.{◌≡◌, ◌<◌, ◌≤◌, ◌⊎◌, ℕ, List, All, length, Option, Some, None, Ok, Err, inl, inr, refl, sym, ◌∙◌, ap, subst, arith}
+use Rattle.std.specs.Prelude.{Result}
+use Rattle.std.proofs.Math.Path.{fun_ext}
+use Rattle.std.proofs.lemmas.Bool.{cases_order}
+use Rattle.glk_cause.specs.declared.cause.Cause.{Cause}
+use Rattle.glk_base.specs.Lines.{lines, line_number, IsFirstBad}
+use Rattle.glk_io.specs.Contents.{Contents, file_in}
+use Rattle.glk_cause.specs.Chain.{IsOneAt, IsOne}
+use Rattle.glk_cause.specs.Reading.{bytes_or}
+use Rattle.glk_cause.proofs.ChainLaws.{then_one, demands_one, gives_one, finds_one, function_one, then_given, demands_given, gives_given, finds_given}
+use Rattle.glk_arena.specs.Config.{IsGoodLine}
+use Rattle.glk_arena.proofs.ConfigLemmas.{one_file}
+use Rattle.glk_arena.specs.World.{Package}
+use Rattle.glk_arena.specs.Waves.{IsOneLoad}
+use Rattle.glk_link.specs.Config.{Listing, config_limit, Parses, bad, good, IsConfigured}
+use Rattle.glk_link.specs.Plain.{IsPlain}
+use Rattle.glk_link.specs.Reach.{AreKept}
+use Rattle.glk_link.specs.Refusals.{undefined_call}
+use Rattle.glk_link.specs.Built.{IsBuilt}
+use Rattle.glk_link.specs.Passes.{Kept, Linked, IsReach, Reaches, IsUndefined, IsLinkOf, LinksPackages, Configures, load_inputs, IsOneLink, IsOneFirst, IsOneImage}
+use Rattle.glk_link.proofs.ImageOnce.{kept_once, start_once, image_of_once}
+
+-- The configuration.
+
+bad_once : (ls : List (List ℕ)) (Good : ℕ → Type 0) (m n : ℕ) → IsFirstBad ls Good m → IsFirstBad ls Good n → m ≡ n
+bad_once ls Good m n x y =
+    elim (cases_order x.line y.line) [
+      | inl same ↦ x.number_is ∙ ap line_number same ∙ sym y.number_is
+      | inr (inl less) ↦ absurd (x.bad (y.before x.line less))
+      | inr (inr more) ↦ absurd (y.bad (x.before y.line more))
+    ]
+
+parses_one : (path : List ℕ) → IsOne (Parses path)
+parses_one path text x y (bad m f) (bad n g) = let same = bad_once (lines text) (IsGoodLine (lines text)) m n f g in cc
+parses_one path text x y (bad m f) (good l all is) = absurd (f.bad (all f.line f.inside))
+parses_one path text x y (good l all is) (bad n g) = absurd (g.bad (all g.line g.inside))
+parses_one path text x y (good l all is) (good k all1 is1) =
+    let same : l ≡ k = fun_ext (λ named. one_file (lines text) (length (lines text)) named (l named) (k named) (is named) (is1 named)) in
+    ap Ok same
+
+configures_one : (files : Contents) → IsOne (Configures files)
+configures_one files opts = one opts.importcfg
+  where
+    one : (path : Option (List ℕ)) (x y : Result Listing Cause) → IsConfigured files path x → IsConfigured files path y → x ≡ y
+    one None x y h k = h ∙ sym k
+    one (Some path) x y h k =
+        then_one path (function_one (λ p. bytes_or p config_limit config_limit (file_in files p)) path) (λ text read. parses_one path text) x y h k
+
+-- The entry, and what is kept.
+
+reach_once : (entry : List ℕ) (world : List Package) → IsPlain world → (k l : Kept) → IsReach entry world k → IsReach entry world l → k ≡ l
+reach_once entry world plain k l x y =
+    ap (λ w. let m : Kept = record { world = w; start = k.start; kept = k.kept } in m) (x.packages ∙ sym y.packages)
+    ∙ ap (λ n. let m : Kept = record { world = l.world; start = n; kept = k.kept } in m) (start_once world entry k.start l.start plain x.start y.start)
+    ∙ ap (λ xs. let m : Kept = record { world = l.world; start = l.start; kept = xs } in m) (kept_once world entry k.kept l.kept x.kept y.kept)
+
+reaches_one : (entry : List ℕ) (world : List Package) → IsPlain world → IsOneAt (Reaches entry) world
+reaches_one entry world plain =
+    then_one world (demands_one world) (λ w has.
+    let P : List Package → Type 0 = λ x. IsPlain x in
+    gives_one w (reach_once entry w (subst P (demands_given world w has).0 plain)))
+
+are_kept : (entry : List ℕ) (world : List Package) (k : Kept) → Reaches entry world (Ok k) → AreKept k.world entry k.kept
+are_kept entry world k h =
+    let t = then_given world k h in
+    let is = gives_given t.0 k t.2 in
+    let P : List Package → Type 0 = λ w. AreKept w entry k.kept in
+    subst P (sym is.packages) is.kept
+
+-- The first call of what is missing.
+
+record IsSamePlace (i k j m : ℕ) : Type 0 where
+  row : i ≡ j
+  index : k ≡ m
+
+place_once : (i k j m : ℕ) → (i < j) ⊎ ((i ≡ j) × (k ≤ m)) → (j < i) ⊎ ((j ≡ i) × (m ≤ k)) → IsSamePlace i k j m
+place_once i k j m (inl a) (inl b) = absurd (omega (arith, a, b))
+place_once i k j m (inl a) (inr b) = absurd (omega (arith, a, b.0))
+place_once i k j m (inr a) (inl b) = absurd (omega (arith, a.0, b))
+place_once i k j m (inr a) (inr b) = record { row = a.0; index = omega (arith, a.1, b.1) }
+
+undefined_once : (k : Kept) (a b : Cause) → IsUndefined k a → IsUndefined k b → a ≡ b
+undefined_once k a b x y =
+    let same = place_once x.row x.index y.row y.index (x.first.least y.row y.index y.first.is_kept y.first.misses) (y.first.least x.row x.index x.first.is_kept x.first.misses) in
+    x.refusal_is ∙ ap (λ i. undefined_call k.world i x.index) same.row ∙ ap (λ n. undefined_call k.world y.row n) same.index ∙ sym y.refusal_is
+
+-- The image.
+
+link_once : (entry : List ℕ) (k : Kept) → AreKept k.world entry k.kept → All (IsBuilt k.world) k.kept → (m n : Linked) → IsLinkOf k m → IsLinkOf k n → m ≡ n
+link_once entry k are built m n x y =
+    ap (λ w. let l : Linked = record { world = w; kept = m.kept; image = m.image } in l) (x.packages ∙ sym y.packages)
+    ∙ ap (λ xs. let l : Linked = record { world = n.world; kept = xs; image = m.image } in l) (x.kept ∙ sym y.kept)
+    ∙ ap (λ i. let l : Linked = record { world = n.world; kept = n.kept; image = i } in l) (image_of_once k.world entry k.kept k.start m.image n.image are built x.image y.image)
+
+-- The chain.
+
+packages_one : (entry : List ℕ) → IsOne (LinksPackages entry)
+packages_one entry world =
+    then_one world (then_one world (demands_one world) (λ w few. demands_one w)) (λ v within.
+    then_one v (demands_one v) (λ u plain.
+    then_one u (reaches_one entry u (demands_given v u plain).1) (λ k reached.
+    then_one k (finds_one k (undefined_once k)) (λ l found.
+    then_one l (demands_one l) (λ m placed.
+    let P : Kept → Type 0 = λ n. AreKept n.world entry n.kept in
+    let are = subst P (finds_given k l found ∙ (demands_given l m placed).0) (are_kept entry u k reached) in
+    gives_one m (link_once entry m are (demands_given l m placed).1))))))
+
+pub one_link : IsOneLoad → IsOneLink
+one_link one files opts =
+    then_one opts (demands_one opts) (λ o supported.
+    then_one o (configures_one files o) (λ listed configured.
+    then_one listed (one (load_inputs opts listed) files) (λ world loaded.
+    packages_one opts.entry world)))
+
+pub one_first : IsOneLoad → IsOneFirst
+one_first one files opts None None x y = refl
+one_first one files opts None (Some b) x y = let same = one_link one files opts (Ok x.0) (Err b) x.1 y in absurd (clash same)
+  where
+    clash : (let r : Result Linked Cause = Ok x.0 in r) ≡ Err b → ⊥
+    clash e = cc
+one_first one files opts (Some a) None x y = let same = one_link one files opts (Ok y.0) (Err a) y.1 x in absurd (clash same)
+  where
+    clash : (let r : Result Linked Cause = Ok y.0 in r) ≡ Err a → ⊥
+    clash e = cc
+one_first one files opts (Some a) (Some b) x y = let same = one_link one files opts (Err a) (Err b) x y in cc
+
+pub one_image : IsOneLoad → IsOneImage
+one_image one files opts a b x y =
+    let same = one_link one files opts (Ok x.0) (Ok y.0) x.1 y.1 in
+    sym x.2 ∙ ap (λ l. l.image) (same_linked x.0 y.0 same) ∙ y.2
+  where
+    same_linked : (m n : Linked) → (let r : Result Linked Cause = Ok m in r) ≡ Ok n → m ≡ n
+    same_linked m n e = cc

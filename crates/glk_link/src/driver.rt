@@ -1,0 +1,62 @@
+// A link, pass by pass.
+ghost use Rattle.std.specs.Prelude.{◌≡◌, ◌≤◌};
+ghost use Rattle.glk_link.specs.Options.{AsksUnbuilt};
+ghost use Rattle.glk_link.specs.Answers.{IsUnsupported, LinkAnswer, AnswersUnlessIoFails};
+
+use crate::link_packages::link_packages;
+use crate::options::{LinkOptions, Report};
+use crate::read_config::{asks_unbuilt, read_config};
+use glk_arena::{load_waves, one_load};
+use glk_base::Fault;
+use glk_cause::{Cause, Form, write_named};
+use glk_io::{Files, Gate};
+use std::alloc::Global;
+use std::thread::Threads;
+
+/// Links the file that the options name with the packages that it needs, and writes the image to the
+/// output file. It reports the number of packages that were loaded, of their definitions and of those
+/// that are kept, and the length of the image.
+///
+/// All memory but the files' own is taken before the write. One thread does the work, so far: the
+/// threads of `rt` and the gate are not used.
+///
+/// # Errors
+/// The first refusal of the passes, in their order: then no file is changed, and no count rose.
+/// `ReadFault` and `WriteFault`, with a count that rose; after a failed write the output file is as
+/// before or a prefix of the image. Out of memory: no file is changed, and no count rose.
+pub fn link<R: Threads + Sync, F: Files, G: Gate>(
+    rt: &R,
+    alloc: Global,
+    opts: &LinkOptions,
+    files: &mut F,
+    gate: &G,
+) -> Result<Report, Fault<Cause>>
+    requires { (1 ≤ opts.now.workers) × (opts.now.workers ≤ 64) }
+    ensures unbuilt { AsksUnbuilt opts.now → IsUnsupported result × (files.new ≡ files.old) }
+    ensures means { LinkAnswer (F.state files.old) (F.state files.new) opts.now result }
+    ensures due { AnswersUnlessIoFails (F.state files.old) (F.state files.new) opts.now result }
+{
+    let _ = rt;
+    let _ = gate;
+    one_load();
+    if asks_unbuilt(opts) {
+        return Err(Fault::Bad(Cause::NotYet { form: Form::Flag }));
+    }
+    link_files(alloc, opts, files)
+}
+
+// The passes of a link whose options are supported.
+fn link_files<F: Files>(
+    alloc: Global,
+    opts: &LinkOptions,
+    files: &mut F,
+) -> Result<Report, Fault<Cause>>
+    requires { AsksUnbuilt opts.now → ⊥ }
+    ensures { LinkAnswer (F.state files.old) (F.state files.new) opts.now result }
+{
+    let config = read_config(alloc, opts, files)?;
+    let loaded = load_waves(alloc, opts.main.as_str(), &config, files)?;
+    let output = link_packages(alloc, &loaded, opts.entry.as_str().as_bytes())?;
+    write_named(alloc, opts.out.as_str(), &output.image, files)?;
+    Ok(output.report)
+}

@@ -1,6 +1,0 @@
-use Rattle.std.proofs.Common.{arith}
-use Rattle.glk_obj.proofs.SymbolPlaces.{symbol_room}
-use Rattle.glk_obj.proofs.places.symbol_place.Goals as goal
-
-pub returns-clause-room : goal.returns-clause-room
-returns-clause-room c = omega (arith, symbol_room c.args.bytes.now c.args.i c.requires.laid c.requires.index)

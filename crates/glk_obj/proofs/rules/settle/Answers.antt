@@ -1,9 +1,0 @@
-use Rattle.glk_obj.proofs.Intact.{settled}
-use Rattle.glk_obj.proofs.Objects.{unbroken}
-use Rattle.glk_obj.proofs.rules.settle.Goals as goal
-
-pub returns-in-None-clause-ok : goal.returns-in-None-clause-ok
-returns-in-None-clause-ok c = settled c.args.bytes.now c.args.rule c.requires.positive c.requires.before (rw c.in-None.is at c.requires.found)
-
-pub returns-in-Some-clause-refused : goal.returns-in-Some-clause-refused
-returns-in-Some-clause-refused c = λ object. unbroken c.args.bytes.now c.args.rule c.in-Some.offset object (rw c.in-Some.is at c.requires.found).holds

@@ -1,0 +1,10 @@
+use Rattle.glk_package.specs.HeaderRule.{rule_view}
+use Rattle.glk_package.proofs.WalkSteps.{Passed}
+use Rattle.glk_package.proofs.package_file.objects_of_members.Given as goal
+
+abbrev pub invariant-loop-step : goal.invariant-loop-step
+invariant-loop-step l = record {
+  can : (goal.iterator-loop-step).can_next l.walk;
+  finite : (goal.iterator-loop-step).is_finite l.walk;
+  passed : Passed (rule_view l.headers) l.file l.walk l.number l.objects.items;
+}

@@ -1,0 +1,35 @@
+-- Which lines the objects of a file may have.
+use Rattle.std.specs.Prelude.{◌≡◌, ℕ, List, [], ◌∷◌, ⊤}
+use Rattle.glk_package.specs.declared.header_rule.HeaderRule.{HeaderRule as CallRule}
+use Rattle.glk_package.specs.declared.header_rule.HeaderRule.TheVariants as rule
+use Rattle.glk_package.specs.ObjectEntry.{ObjectEntry}
+
+-- each object its own, or all that of the first of them, or exactly this one
+pub data HeaderRule : Type 0 where
+  any : HeaderRule
+  uniform : HeaderRule
+  exactly : List ℕ → HeaderRule
+
+-- the rule of a call, without where its line is in memory
+abbrev pub rule_view : CallRule → HeaderRule
+rule_view rule.Any = any
+rule_view rule.Uniform = uniform
+rule_view (rule.Exactly line) = exactly line.now
+
+-- An object may have this line.
+abbrev pub Allows : HeaderRule → List ℕ → Type 0
+Allows any line = ⊤
+Allows uniform line = ⊤
+Allows (exactly first) line = line ≡ first
+
+-- The line is `here`, and another one is asked: `first`.
+pub record IsMismatch (headers : HeaderRule) (first here : List ℕ) : Type 0 where
+  pub asked : headers ≡ exactly first
+  pub other : ¬ (here ≡ first)
+
+-- The rule for the objects after these: the first object, if there is one, settles a line that is yet open.
+abbrev pub rule_after : HeaderRule → List ObjectEntry → HeaderRule
+rule_after any objects = any
+rule_after uniform [] = uniform
+rule_after uniform (o ∷ os) = exactly o.line
+rule_after (exactly first) objects = exactly first

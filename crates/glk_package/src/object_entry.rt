@@ -1,0 +1,139 @@
+// The object that a member of a package file holds.
+ghost use Rattle.std.specs.Prelude.{◌≡◌, ◌+◌, ◌≤◌, length, IfOk, IfErr};
+ghost use Rattle.std.specs.Option.{option_copied};
+ghost use Rattle.glk_base.specs.Limits.{file_limit};
+ghost use Rattle.glk_obj.specs.Object.{IsObject};
+ghost use Rattle.glk_obj.specs.Views.{IsShapeOf};
+ghost use Rattle.glk_package.specs.HeaderRule.{rule_view};
+ghost use Rattle.glk_package.specs.Members.{IsObjectIn, IsBodyFault};
+ghost use Rattle.glk_package.specs.Package.{OrOutOfMemory};
+
+use crate::header_rule::{HeaderRule, mismatch, other_line};
+use crate::refusal::PackageBad;
+use glk_ar::{MARK_RULE, PartBad, object_part};
+use glk_base::{Fault, RuleFamily};
+use glk_obj::{ObjShape, ObjView};
+use std::alloc::Global;
+use std::marker::Model;
+
+/// An object of a package file, borrowed from it. It breaks no rule. Contracts see its member's
+/// number and name, its line, its data, and their offset in the file.
+#[derive(Drop)]
+pub struct ObjectEntry<'a> {
+    member: u32,
+    name: Option<&'a [u8]>,
+    line: &'a [u8],
+    goobj: &'a [u8],
+    at: u64,
+    shape: ObjShape,
+}
+
+impl<'a> Model for ObjectEntry<'a> {
+    ghost use Rattle.std.specs.Option.{option_copied};
+    ghost use Rattle.glk_obj.specs.Views.{IsShapeOf};
+    ghost use Rattle.glk_package.specs.ObjectEntry.{ObjectEntry};
+
+    ghost Value = { ObjectEntry };
+
+    ghost view = { λ o. record { member = o.member; name = option_copied o.name; line = o.line.now; goobj = o.goobj.now; at = o.at } };
+
+    ghost invariant = { λ o. IsShapeOf o.goobj.now o.shape };
+}
+
+impl<'a> ObjectEntry<'a> {
+    /// The number of its member, counted from 0 over all members of the file.
+    pub fn member(&self) -> u32
+        ensures { result ≡ self.now.member }
+    {
+        self.member
+    }
+
+    /// The name of its member, or nothing for a bare object.
+    pub fn name(&self) -> Option<&'a [u8]>
+        ensures { option_copied result ≡ self.now.name }
+    {
+        self.name
+    }
+
+    /// Its first line, without the newline.
+    pub fn line(&self) -> &'a [u8]
+        ensures { result.now ≡ self.now.line }
+    {
+        self.line
+    }
+
+    /// Its data, from the magic on.
+    pub fn goobj(&self) -> &'a [u8]
+        ensures { result.now ≡ self.now.goobj }
+    {
+        self.goobj
+    }
+
+    /// The offset of its data in the file.
+    pub fn at(&self) -> u64
+        ensures { result ≡ self.now.at }
+    {
+        self.at
+    }
+
+    /// The shape of its data, which makes views of them.
+    pub fn shape(&self) -> ObjShape
+        ensures { IsShapeOf self.now.goobj result }
+    {
+        self.shape
+    }
+
+    /// A view of its data, without another check.
+    pub fn view(&self) -> ObjView<'a>
+        ensures object { IsObject self.now.goobj }
+        ensures value { result ≡ self.now.goobj }
+    {
+        self.shape.view(self.goobj)
+    }
+}
+
+// The object in a body that is at this offset in the file, or the first fault of the body.
+pub(crate) fn object_in<'a>(
+    alloc: Global,
+    headers: HeaderRule<'_>,
+    member: u32,
+    name: Option<&'a [u8]>,
+    body: &'a [u8],
+    at: u64,
+) -> Result<ObjectEntry<'a>, Fault<PackageBad>>
+    requires { at + length body.now ≤ file_limit }
+    ensures ok { IfOk result (IsObjectIn (rule_view headers.entry) member at (option_copied name.entry) body.now) }
+    ensures err { IfErr result (OrOutOfMemory (IsBodyFault (rule_view headers.entry) member at body.now)) }
+{
+    let part = match object_part(body) {
+        Ok(part) => part,
+        Err(PartBad::NotGo) => return Err(Fault::Bad(PackageBad::NotGo { member })),
+        Err(PartBad::NoMark) => {
+            return Err(Fault::Bad(PackageBad::Malformed {
+                member,
+                family: RuleFamily::Archive,
+                rule: MARK_RULE,
+                offset: at,
+            }));
+        }
+    };
+    if let Some(first) = mismatch(headers, part.line) {
+        return Err(Fault::Bad(other_line(alloc, member, first, part.line)?));
+    }
+    match ObjShape::check(part.goobj) {
+        Ok(shape) => Ok(ObjectEntry {
+            member,
+            name,
+            line: part.line,
+            goobj: part.goobj,
+            at: at + part.at,
+            shape,
+        }),
+        Err(bad) => Err(Fault::Bad(PackageBad::Malformed {
+            member,
+            family: RuleFamily::Object,
+            rule: bad.rule,
+            offset: bad.offset,
+        })),
+    }
+}

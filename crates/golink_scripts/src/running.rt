@@ -1,0 +1,109 @@
+// A run of the program on the files of a script.
+use crate::stage::{Ended, Faults, Stage, Stream};
+use crate::stop::Stop;
+use crate::words::Word;
+use glk_io::{CallFail, Files, MemFiles, MemSink, MemSource, Sink};
+use glk_run::run;
+use std::alloc::Global;
+use std::mem;
+use std::thread::Threads;
+
+/// Runs the program on these words.
+pub fn golink<R: Threads + Sync>(
+    rt: &R,
+    alloc: Global,
+    stage: &mut Stage,
+    words: &[Word],
+    line: u32,
+) -> Result<(), Stop> {
+    let faults = mem::replace(&mut stage.faults, Faults::none(alloc));
+    let input = mem::replace(&mut stage.input, Vec::new(alloc));
+    let listed = faults.files.len() as u64;
+    let mut files = files_in_memory(alloc, stage, faults.files)?;
+    let mut input = MemSource::new(input, Vec::new(alloc));
+    let mut out = MemSink::new(alloc, faults.out_room, faults.out)?;
+    let mut err = MemSink::new(alloc, faults.err_room, faults.err)?;
+    let texts = texts_of(alloc, words)?;
+    let outcome = run(
+        rt, alloc, &texts, &mut files, &mut input, &mut out, &mut err,
+    );
+    let status = outcome.status();
+    let changed = take_back(alloc, stage, &files)?;
+    let is_refusal = status != 0 && files.write_faults() == 0;
+    stage.last = Some(Ended {
+        line,
+        status,
+        is_status_checked: false,
+        out: stream(alloc, &out)?,
+        err: stream(alloc, &err)?,
+        failed: files.read_faults().saturating_add(files.write_faults()),
+        listed,
+        changed: if is_refusal { changed } else { None },
+    });
+    Ok(())
+}
+
+// What a sink holds.
+fn stream(alloc: Global, sink: &MemSink) -> Result<Stream, Stop> {
+    Ok(Stream {
+        bytes: Vec::from_slice(alloc, sink.bytes())?,
+        is_checked: false,
+    })
+}
+
+// The words as the program is given them.
+fn texts_of(alloc: Global, words: &[Word]) -> Result<Vec<String>, Stop> {
+    let mut texts = Vec::new(alloc);
+    for word in words {
+        texts.push(String::from_str(alloc, word.text())?)?;
+    }
+    Ok(texts)
+}
+
+// The files in memory. Each takes a call to write, and the calls that fail count from the first one
+// after these.
+fn files_in_memory(alloc: Global, stage: &Stage, listed: Vec<CallFail>) -> Result<MemFiles, Stop> {
+    let earlier = stage.files.len() as u64;
+    let mut fails = Vec::new(alloc);
+    for fail in listed.iter() {
+        fails.push(CallFail {
+            call: fail.call.saturating_add(earlier),
+            kept: fail.kept,
+        })?;
+    }
+    let mut files = MemFiles::new(Vec::new(alloc), fails);
+    for file in &stage.files {
+        let written = files.write_file(alloc, file.name.as_str(), file.bytes.as_slice());
+        if written.is_err() {
+            return Err(Stop::OutOfMemory);
+        }
+    }
+    Ok(files)
+}
+
+// Takes back the files that a run changed. Answers one of them.
+fn take_back(alloc: Global, stage: &mut Stage, files: &MemFiles) -> Result<Option<String>, Stop> {
+    let mut changed = None;
+    for path in files.paths(alloc)? {
+        let Some(bytes) = files.get(path) else {
+            continue;
+        };
+        if is_file(stage, path, bytes) {
+            continue;
+        }
+        let bytes = Vec::from_slice(alloc, bytes)?;
+        stage.put(alloc, path, bytes)?;
+        changed = Some(String::from_str(alloc, path)?);
+    }
+    Ok(changed)
+}
+
+// Whether a script has this file.
+fn is_file(stage: &Stage, name: &str, bytes: &[u8]) -> bool {
+    for file in &stage.files {
+        if file.name.as_str() == name {
+            return file.bytes.as_slice() == bytes;
+        }
+    }
+    false
+}
