@@ -14,7 +14,7 @@ use crate::blocks::{
     AUX_WIDTH, Block, ENTRY_WIDTH, REF_NAME_WIDTH, RELOC_WIDTH, SYMBOL_WIDTH, width_at,
 };
 use crate::records::{SymRec, SymRef, reference, symbol};
-use crate::references::text;
+use crate::references::{text, text_range};
 use glk_base::le32;
 
 /// The eight bytes from an offset on.
@@ -89,6 +89,19 @@ pub(crate) fn symbol_of(bytes: &[u8], start: u32, i: u32) -> SymRec<'_>
     ensures aligned { IsContentKind result.kind → IsAlign result.align }
 {
     symbol(bytes, named_symbol_offset(bytes, start, i))
+}
+
+/// Where the name of symbol `i` begins and ends, the symbols being at `start`.
+pub(crate) fn name_range(bytes: &[u8], start: u32, i: u32) -> (usize, usize)
+    requires object { IsObject bytes.now }
+    requires layout { HasLayout bytes.now }
+    requires start { start ≡ offset_of bytes.now symdef }
+    requires index { i < symbols bytes.now }
+    ensures name { (symbol_at bytes.now i).name ≡ slice_range bytes.now result.0 result.1 }
+    ensures order { result.0 ≤ result.1 }
+    ensures within { result.1 ≤ length bytes.now }
+{
+    text_range(bytes, named_symbol_offset(bytes, start, i))
 }
 
 /// The offset of entry `i` of a table, the table being at `start`; another entry follows it.

@@ -19,9 +19,9 @@ use crate::packages::{
 use crate::records::{SymRef, reference};
 use glk_base::le32;
 
-// Where the string that is named here begins and ends.
+/// Where the string that is named here begins and ends.
 #[tactic(auto, unfolding(crate::specs::Records::text_at, crate::specs::References::PassesEnd))]
-fn text_range(bytes: &[u8], at: usize) -> (usize, usize)
+pub(crate) fn text_range(bytes: &[u8], at: usize) -> (usize, usize)
     requires room { at + 8 ≤ length bytes.now }
     requires inside { PassesEnd bytes.now at → ⊥ }
     ensures text { text_at bytes.now at ≡ slice_range bytes.now result.0 result.1 }

@@ -1,5 +1,5 @@
 // Objects that break no rule, read in place.
-ghost use Rattle.std.specs.Prelude.{◌≡◌, ◌+◌, ◌<◌, ◌≤◌, length, IsTrue, IfOk, OnOk, IfErr, OnErr};
+ghost use Rattle.std.specs.Prelude.{◌≡◌, ◌+◌, ◌<◌, ◌≤◌, length, slice_range, IsTrue, IfOk, OnOk, IfErr, OnErr};
 ghost use Rattle.std.specs.Option.{option_copied};
 ghost use Rattle.glk_base.specs.Rules.{FirstBroken};
 ghost use Rattle.glk_obj.specs.Blocks.{count as count_of, autolib, pkg_idx, file, ref_flags, hash64, hasheddef, ref_name as ref_name_block};
@@ -13,8 +13,8 @@ ghost use Rattle.glk_obj.specs.Views.{IsShapeOf, number_of, ref_view, symbol_vie
 use crate::blocks::{Block, FINGERPRINT, FLAGS, Offsets, count};
 use crate::check::{ObjBad, check};
 use crate::offsets::{
-    aux_offset, data_part, eight_bytes, entries, find_name, hash_part, named_offset, record_offset,
-    ref_flags_offset, ref_name_offset, reloc_offset, symbol_of,
+    aux_offset, data_part, eight_bytes, entries, find_name, hash_part, name_range, named_offset,
+    record_offset, ref_flags_offset, ref_name_offset, reloc_offset, symbol_of,
 };
 use crate::records::{
     AuxRec, RefFlagsRec, RelocRec, SymRec, SymRef, auxiliary, reference, reference_flags,
@@ -188,6 +188,17 @@ impl<'a> ObjView<'a> {
         ensures aligned { IsContentKind result.kind → IsAlign result.align }
     {
         symbol_of(self.bytes, self.offsets.of(Block::Symdef), i)
+    }
+
+    /// Where the name of symbol `i` is in the object. Symbols that share one string have one range,
+    /// so a caller can tell that two names are equal before it looks at their bytes.
+    pub fn name_range(&self, i: u32) -> (usize, usize)
+        requires { i < symbols self.now }
+        ensures name { (symbol_at self.now i).name ≡ slice_range self.now result.0 result.1 }
+        ensures order { result.0 ≤ result.1 }
+        ensures within { result.1 ≤ length self.now }
+    {
+        name_range(self.bytes, self.offsets.of(Block::Symdef), i)
     }
 
     /// The data of definition `i`.
