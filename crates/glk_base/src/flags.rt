@@ -45,7 +45,8 @@ pub fn split_flag(word: &str) -> FlagWord<'_>
 // What follows a dash, where the text begins with one.
 #[tactic(auto, unfolding(crate::specs::Flags::after_dash))]
 fn after_dash(text: &str) -> Option<&str>
-    ensures { MatchOption result (behind_dash text.now ≡ None) (λ rest. behind_dash text.now ≡ Some rest.now) }
+    ensures { MatchOption result (behind_dash text.now ≡ None)
+        (λ rest. behind_dash text.now ≡ Some rest.now) }
 {
     text.strip_prefix('-')
 }

@@ -135,7 +135,8 @@ fn begins_number(digits: &[u8]) -> bool
 
 /// The number below 2^16 that is written here in decimal digits, without a sign or a leading zero.
 pub fn small_number(digits: &[u8]) -> Option<u16>
-    ensures { MatchOption result ((n : ℕ) → n < 2 ^ 16 → digits.now ≡ decimal n → ⊥) (λ n. digits.now ≡ decimal n) }
+    ensures { MatchOption result ((n : ℕ) → n < 2 ^ 16 → digits.now ≡ decimal n → ⊥)
+        (λ n. digits.now ≡ decimal n) }
 {
     if !begins_number(digits) {
         return None;

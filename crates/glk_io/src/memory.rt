@@ -151,7 +151,8 @@ impl Files for MemFiles {
     }
 
     fn write_file(&mut self, alloc: Global, path: &str, bytes: &[u8]) -> Result<(), WriteError>
-        ensures writes { WritesFile (memory_files self.old) (memory_files self.new) path.now bytes.now result }
+        ensures writes { WritesFile (memory_files self.old) (memory_files self.new)
+            path.now bytes.now result }
         // It fails exactly where the call is listed and there is memory, and leaves what the entry says.
         ensures listed { WritesListed self.old self.new.contents path.now bytes.now result }
         ensures after { self.new ≡ after_write self.old self.new.contents result }

@@ -62,12 +62,23 @@ fn files_of_the_system_are_read_and_replaced(rt: HostRuntime) -> Result<(), Fail
     bytes.push(b'b')?;
     assert_eq!(rt; files.write_file(alloc, path, &bytes), Ok(()));
     assert!(rt; has(alloc, &mut files, path, &bytes));
+    // Blanks at the ends of a path are part of it.
+    let spaced = " glk_io_files.tmp ";
+    assert_eq!(rt; files.write_file(alloc, spaced, b"other"), Ok(()));
+    assert!(rt; has(alloc, &mut files, path, &bytes));
+    fs::remove_file(&rt, spaced)?;
+    // What is below a file can't be opened, which is not the same as absent.
+    assert_eq!(rt;
+        refusal(alloc, &mut files, "glk_io_files.tmp/below", LIMIT),
+        Some(ReadError::Failed)
+    );
+    assert_eq!(rt; files.read_faults(), 1);
     fs::remove_file(&rt, path)?;
     assert_eq!(rt;
         refusal(alloc, &mut files, path, LIMIT),
         Some(ReadError::Absent)
     );
-    assert_eq!(rt; files.read_faults(), 0);
+    assert_eq!(rt; files.read_faults(), 1);
     assert_eq!(rt; files.write_faults(), 0);
     // A directory is no file.
     assert_eq!(rt;
@@ -96,6 +107,14 @@ fn a_program_can_be_run_by_those_who_can_read_it(rt: HostRuntime) -> Result<(), 
         assert_eq!(rt; (mode & 0o444) >> 2, mode & 0o111);
         fs::remove_file(&rt, path)?;
     }
+    // A device keeps its permissions.
+    let device = "/dev/null";
+    let mode = fs::metadata(&rt, device)?.mode();
+    assert_eq!(rt;
+        OsFiles::for_programs(&rt).write_file(alloc, device, b"code"),
+        Ok(())
+    );
+    assert_eq!(rt; fs::metadata(&rt, device)?.mode(), mode);
     Ok(())
 }
 
