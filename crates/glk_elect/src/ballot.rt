@@ -1,4 +1,4 @@
-// What is votes_of on.
+// What a vote is on: ids in groups, their keys, and the vote of each.
 ghost use Rattle.std.specs.Prelude.{◌≡◌, ℕ, ◌<◌, ◌≤◌, List, length, Option};
 ghost use Rattle.std.specs.List.{sum};
 ghost use Rattle.glk_elect.specs.Ballots.{first_of, vote_at, IsRank};
