@@ -214,7 +214,8 @@ fn write_refusal<'a, S: Sink>(sink: &mut S, refusal: &'a Cause)
 // Writes that the value of a field does not fit it.
 #[tactic(auto, unfolding(crate::specs::Messages::overflow_text))]
 fn write_overflow<'a, S: Sink>(sink: &mut S, name: &'a Text, offset: u32, value: &'a i128)
-    ensures { ReportsLine (S.state sink.old) (S.state sink.new) (line_of (overflow_text name.now offset value.now)) }
+    ensures { ReportsLine (S.state sink.old) (S.state sink.new)
+        (line_of (overflow_text name.now offset value.now)) }
 {
     write_line(
         sink,

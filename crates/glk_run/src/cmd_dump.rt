@@ -13,7 +13,8 @@ pub(crate) fn dump_command<F: Files, O: Sink>(
     files: &mut F,
     out: &mut O,
 ) -> Outcome
-    ensures { DumpOutcome (F.state files.old) (F.state files.new) (O.state out.old) (O.state out.new) path.now result }
+    ensures { DumpOutcome (F.state files.old) (F.state files.new)
+        (O.state out.old) (O.state out.new) path.now result }
 {
     Outcome::of_answer(dump(alloc, path, files, out))
 }

@@ -77,8 +77,8 @@ fn dispatch<R: Threads + Sync, F: Files, O: Sink>(
     out: &mut O,
 ) -> Outcome
     requires { AreAccepted (settings_of invocation.now) }
-    ensures outcome { CommandOutcome (F.state files.old) (F.state files.new) (O.state out.old) (O.state out.new)
-        (invocation_view invocation.now) invocation.now.command result }
+    ensures outcome { CommandOutcome (F.state files.old) (F.state files.new)
+        (O.state out.old) (O.state out.new) (invocation_view invocation.now) invocation.now.command result }
     ensures silent { ¬ (invocation.now.command ≡ command.Dump) → out.new ≡ out.old }
     ensures idle { ¬ IsBuilt invocation.now.command → files.new ≡ files.old }
 {

@@ -29,8 +29,10 @@ pub fn dump<F: Files, O: Sink>(
     files: &mut F,
     out: &mut O,
 ) -> Result<(), Fault<Cause>>
-    ensures answer { DumpAnswer (F.state files.old) (F.state files.new) (O.state out.old) (O.state out.new) path.now result }
-    ensures must { DumpUnlessIoFails (F.state files.old) (F.state files.new) (O.state out.old) (O.state out.new) path.now result }
+    ensures answer { DumpAnswer (F.state files.old) (F.state files.new)
+        (O.state out.old) (O.state out.new) path.now result }
+    ensures must { DumpUnlessIoFails (F.state files.old) (F.state files.new)
+        (O.state out.old) (O.state out.new) path.now result }
 {
     read_and_print(alloc, path, files, out)
 }
@@ -42,7 +44,8 @@ fn read_and_print<F: Files, O: Sink>(
     files: &mut F,
     out: &mut O,
 ) -> Result<(), Fault<Cause>>
-    ensures { DumpAnswer (F.state files.old) (F.state files.new) (O.state out.old) (O.state out.new) path.now result }
+    ensures { DumpAnswer (F.state files.old) (F.state files.new)
+        (O.state out.old) (O.state out.new) path.now result }
 {
     let text = text_at(alloc, path, files)?;
     print(alloc, &text, out)
