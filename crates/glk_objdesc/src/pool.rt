@@ -1,5 +1,5 @@
 // The strings of an object, each once.
-ghost use Rattle.std.specs.Prelude.{◌≡◌, ◌+◌, ◌<◌, ◌≤◌, ◌^◌, ◌++◌, [], IfOk, OnOk, OnErr, length, map, unwrap_or};
+ghost use Rattle.std.specs.Prelude.{◌≡◌, ◌+◌, ◌<◌, ◌≤◌, ◌^◌, ◌++◌, ℕ, List, [], IfOk, OnOk, OnErr, length, map, unwrap_or};
 ghost use Rattle.std.specs.HashMap.{get_by};
 ghost use Rattle.std.specs.Str.{bytes_eq};
 ghost use Rattle.glk_obj.specs.Blocks.{header_length};
@@ -104,75 +104,73 @@ fn found(offsets: &HashMap<&[u8], u64>, string: &[u8]) -> Option<u64>
 fn push_strings(out: &mut Vec<u8>, strings: &[&[u8]]) -> Result<(), OutOfMemory>
     ensures { OnOk result (out.new.items ≡ out.old.items ++ concat_of (texts_of strings.now)) }
 {
-    let mut rest = strings;
-    while let [first, after @ ..] = rest {
-        out.extend_from_slice(first)?;
-        rest = after;
+    for string in strings {
+        out.extend_from_slice(string)?;
     }
     Ok(())
 }
 
-// Adds the paths of packages.
-#[tactic(auto, unfolding(crate::specs::FirstUse::with_each))]
-fn add_paths<'a>(pool: &mut Pool<'a>, autolib: &'a [AutolibDesc]) -> Result<(), OutOfMemory>
-    ensures { OnOk result (pool.new ≡ with_each pool.old (map autolib_path autolib.now)) }
-{
-    let mut rest = autolib;
-    while let [first, after @ ..] = rest {
-        pool.add(first.path.as_bytes())?;
-        rest = after;
-    }
-    Ok(())
+/// What has a string of its own in the object.
+pub(crate) trait Named {
+    ghost name: { Self → List ℕ };
+
+    // The string.
+    fn name(&self) -> &[u8]
+        ensures { result.now ≡ name self.now };
 }
 
-// Adds the names of packages or files.
-#[tactic(auto, unfolding(crate::specs::FirstUse::with_each))]
-fn add_texts<'a>(pool: &mut Pool<'a>, texts: &'a [Text]) -> Result<(), OutOfMemory>
-    ensures { OnOk result (pool.new ≡ with_each pool.old texts.now) }
-{
-    let mut rest = texts;
-    while let [first, after @ ..] = rest {
-        pool.add(first.as_bytes())?;
-        rest = after;
+// The path of a package.
+impl Named for AutolibDesc {
+    ghost name = { autolib_path };
+
+    fn name(&self) -> &[u8] {
+        self.path.as_bytes()
     }
-    Ok(())
 }
 
-// Adds the names of definitions.
-#[tactic(auto, unfolding(crate::specs::FirstUse::with_each))]
-fn add_definitions<'a>(pool: &mut Pool<'a>, defs: &'a [DefDesc]) -> Result<(), OutOfMemory>
-    ensures { OnOk result (pool.new ≡ with_each pool.old (map def_name defs.now)) }
-{
-    let mut rest = defs;
-    while let [first, after @ ..] = rest {
-        pool.add(first.sym.name.as_bytes())?;
-        rest = after;
+// The name of a package or a file.
+impl Named for Text {
+    ghost name = { λ text. text };
+
+    fn name(&self) -> &[u8] {
+        self.as_bytes()
     }
-    Ok(())
 }
 
-// Adds the names of references.
-#[tactic(auto, unfolding(crate::specs::FirstUse::with_each))]
-fn add_references<'a>(pool: &mut Pool<'a>, refs: &'a [SymDesc]) -> Result<(), OutOfMemory>
-    ensures { OnOk result (pool.new ≡ with_each pool.old (map sym_name refs.now)) }
-{
-    let mut rest = refs;
-    while let [first, after @ ..] = rest {
-        pool.add(first.name.as_bytes())?;
-        rest = after;
+// The name of a definition.
+impl Named for DefDesc {
+    ghost name = { def_name };
+
+    fn name(&self) -> &[u8] {
+        self.sym.name.as_bytes()
     }
-    Ok(())
 }
 
-// Adds the names of symbols of other packages.
+// The name of a reference.
+impl Named for SymDesc {
+    ghost name = { sym_name };
+
+    fn name(&self) -> &[u8] {
+        self.name.as_bytes()
+    }
+}
+
+// The name of a symbol of another package.
+impl Named for RefNameDesc {
+    ghost name = { ref_name };
+
+    fn name(&self) -> &[u8] {
+        self.name.as_bytes()
+    }
+}
+
+// Adds the strings of these.
 #[tactic(auto, unfolding(crate::specs::FirstUse::with_each))]
-fn add_ref_names<'a>(pool: &mut Pool<'a>, names: &'a [RefNameDesc]) -> Result<(), OutOfMemory>
-    ensures { OnOk result (pool.new ≡ with_each pool.old (map ref_name names.now)) }
+fn add_names<'a, T: Named>(pool: &mut Pool<'a>, items: &'a [T]) -> Result<(), OutOfMemory>
+    ensures { OnOk result (pool.new ≡ with_each pool.old (map T.name items.now)) }
 {
-    let mut rest = names;
-    while let [first, after @ ..] = rest {
-        pool.add(first.name.as_bytes())?;
-        rest = after;
+    for item in items {
+        pool.add(item.name())?;
     }
     Ok(())
 }
@@ -183,14 +181,14 @@ pub(crate) fn pool_of<'a>(alloc: Global, d: &'a ObjDesc) -> Result<Pool<'a>, Out
     ensures { IfOk result (λ pool. pool ≡ pool_of d.now) }
 {
     let mut pool = Pool::new(alloc);
-    add_paths(&mut pool, d.autolib.as_slice())?;
-    add_texts(&mut pool, d.pkgs.as_slice())?;
-    add_texts(&mut pool, d.files.as_slice())?;
-    add_definitions(&mut pool, d.defs.as_slice())?;
-    add_definitions(&mut pool, d.hash64.as_slice())?;
-    add_definitions(&mut pool, d.hashed.as_slice())?;
-    add_definitions(&mut pool, d.ndefs.as_slice())?;
-    add_references(&mut pool, d.refs.as_slice())?;
-    add_ref_names(&mut pool, d.ref_names.as_slice())?;
+    add_names(&mut pool, d.autolib.as_slice())?;
+    add_names(&mut pool, d.pkgs.as_slice())?;
+    add_names(&mut pool, d.files.as_slice())?;
+    add_names(&mut pool, d.defs.as_slice())?;
+    add_names(&mut pool, d.hash64.as_slice())?;
+    add_names(&mut pool, d.hashed.as_slice())?;
+    add_names(&mut pool, d.ndefs.as_slice())?;
+    add_names(&mut pool, d.refs.as_slice())?;
+    add_names(&mut pool, d.ref_names.as_slice())?;
     Ok(pool)
 }

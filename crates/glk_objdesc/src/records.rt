@@ -205,10 +205,8 @@ pub(crate) fn push_records<R: Record>(
     requires names { All R.short records.now }
     ensures { OnOk result (out.new.items ≡ out.old.items ++ flat_map (R.bytes pool.now) records.now) }
 {
-    let mut rest = records;
-    while let [first, after @ ..] = rest {
-        first.push(out, pool)?;
-        rest = after;
+    for entry in records {
+        entry.push(out, pool)?;
     }
     Ok(())
 }
@@ -232,10 +230,8 @@ pub(crate) fn push_pkgs(
 pub(crate) fn push_hashes(out: &mut Vec<u8>, defs: &[DefDesc]) -> Result<(), OutOfMemory>
     ensures { OnOk result (out.new.items ≡ out.old.items ++ flat_map hash_of defs.now) }
 {
-    let mut rest = defs;
-    while let [first, after @ ..] = rest {
-        out.extend_from_slice(first.hash.as_bytes())?;
-        rest = after;
+    for def in defs {
+        out.extend_from_slice(def.hash.as_bytes())?;
     }
     Ok(())
 }
@@ -254,11 +250,9 @@ pub(crate) fn push_entries(
     ensures entries { IfOk result (λ to. AddsEntries part from defs.now to out.old.items out.new.items) }
 {
     let mut at = from;
-    let mut rest = defs;
-    while let [first, after @ ..] = rest {
+    for def in defs {
         push_fields(out, &[Field::U32(at)])?;
-        at += part.amount(first) as u32;
-        rest = after;
+        at += part.amount(def) as u32;
     }
     Ok(at)
 }
@@ -285,10 +279,8 @@ pub(crate) fn push_relocs(
     requires { length (concat_of pool.now) ≤ object_limit }
     ensures { OnOk result (out.new.items ≡ out.old.items ++ flat_map relocs_bytes defs.now) }
 {
-    let mut rest = defs;
-    while let [first, after @ ..] = rest {
-        push_relocs_of(out, pool, first.relocs.as_slice())?;
-        rest = after;
+    for def in defs {
+        push_relocs_of(out, pool, def.relocs.as_slice())?;
     }
     Ok(())
 }
@@ -311,10 +303,8 @@ pub(crate) fn push_auxes(
     requires { length (concat_of pool.now) ≤ object_limit }
     ensures { OnOk result (out.new.items ≡ out.old.items ++ flat_map auxes_bytes defs.now) }
 {
-    let mut rest = defs;
-    while let [first, after @ ..] = rest {
-        push_auxes_of(out, pool, first.auxes.as_slice())?;
-        rest = after;
+    for def in defs {
+        push_auxes_of(out, pool, def.auxes.as_slice())?;
     }
     Ok(())
 }
@@ -323,10 +313,8 @@ pub(crate) fn push_auxes(
 pub(crate) fn push_contents(out: &mut Vec<u8>, defs: &[DefDesc]) -> Result<(), OutOfMemory>
     ensures { OnOk result (out.new.items ≡ out.old.items ++ flat_map content_of defs.now) }
 {
-    let mut rest = defs;
-    while let [first, after @ ..] = rest {
-        out.extend_from_slice(first.content.as_bytes())?;
-        rest = after;
+    for def in defs {
+        out.extend_from_slice(def.content.as_bytes())?;
     }
     Ok(())
 }

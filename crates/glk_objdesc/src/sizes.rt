@@ -25,10 +25,8 @@ fn packages_length(packages: &[AutolibDesc]) -> u64
     ensures { result ≡ clamped (packages_length packages.now) }
 {
     let mut total: u64 = 0;
-    let mut rest = packages;
-    while let [first, after @ ..] = rest {
-        total = total.saturating_add(package_length(first));
-        rest = after;
+    for package in packages {
+        total = total.saturating_add(package_length(package));
     }
     total
 }
@@ -39,10 +37,8 @@ fn total(part: Part, defs: &[DefDesc]) -> u64
     ensures { result ≡ clamped (total_of part defs.now) }
 {
     let mut total: u64 = 0;
-    let mut rest = defs;
-    while let [first, after @ ..] = rest {
-        total = total.saturating_add(part.amount(first) as u64);
-        rest = after;
+    for def in defs {
+        total = total.saturating_add(part.amount(def) as u64);
     }
     total
 }
@@ -161,10 +157,8 @@ pub(crate) fn sum_from(before: u64, lengths: &[u64]) -> u64
     ensures { result ≡ clamped (before + sum_of lengths.now) }
 {
     let mut total = before;
-    let mut rest = lengths;
-    while let [first, after @ ..] = rest {
-        total = total.saturating_add(*first);
-        rest = after;
+    for length in lengths {
+        total = total.saturating_add(*length);
     }
     total
 }

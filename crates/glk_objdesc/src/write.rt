@@ -29,11 +29,9 @@ fn push_offsets(out: &mut Vec<u8>, start: u64, lengths: &[u64]) -> Result<(), Ou
     ensures { OnOk result (out.new.items ≡ out.old.items ++ u32s_bytes (prefix_sums start lengths.now)) }
 {
     let mut at = start;
-    let mut rest = lengths;
-    while let [first, after @ ..] = rest {
+    for length in lengths {
         push_fields(out, &[Field::U32(at as u32)])?;
-        at += *first;
-        rest = after;
+        at += *length;
     }
     push_fields(out, &[Field::U32(at as u32)])
 }

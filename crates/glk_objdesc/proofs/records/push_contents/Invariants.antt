@@ -1,10 +1,7 @@
-use Rattle.std.proofs.Common.{◌≡◌, ◌++◌, length}
+use Rattle.std.proofs.Common.{◌≡◌, ◌++◌, drop}
 use Rattle.std.specs.Prelude.{flat_map}
 use Rattle.glk_objdesc.specs.Canonical.{content_of}
 use Rattle.glk_objdesc.proofs.records.push_contents.Given as goal
 
-abbrev pub invariant-loop-rest : goal.invariant-loop-rest
-invariant-loop-rest l = l.out.items ++ flat_map content_of l.rest ≡ l.fn.out.items ++ flat_map content_of l.defs
-
-abbrev pub decreases-loop-rest : goal.decreases-loop-rest
-decreases-loop-rest l = length l.rest
+abbrev pub invariant-loop-def : goal.invariant-loop-def
+invariant-loop-def l = l.out.items ++ flat_map content_of (drop l.def-index l.defs) ≡ l.fn.out.items ++ flat_map content_of l.defs

@@ -1,13 +1,10 @@
-use Rattle.std.proofs.Common.{◌≡◌, ◌+◌, ◌<◌, ◌^◌, length}
+use Rattle.std.proofs.Common.{◌≡◌, ◌+◌, ◌<◌, ◌^◌, drop}
 use Rattle.glk_objdesc.specs.Canonical.{clamped}
 use Rattle.glk_objdesc.specs.Sizes.{packages_length}
 use Rattle.glk_objdesc.proofs.sizes.packages_length.Given as goal
 
-abbrev pub invariant-loop-rest : goal.invariant-loop-rest
-invariant-loop-rest l = record {
+abbrev pub invariant-loop-package : goal.invariant-loop-package
+invariant-loop-package l = record {
   small : l.total < 2 ^ 64;
-  sum : clamped (l.total + packages_length l.rest) ≡ clamped (packages_length l.packages);
+  sum : clamped (l.total + packages_length (drop l.package-index l.packages)) ≡ clamped (packages_length l.packages);
 }
-
-abbrev pub decreases-loop-rest : goal.decreases-loop-rest
-decreases-loop-rest l = length l.rest
