@@ -1,5 +1,6 @@
 pub mod Tables
 pub mod ConfigLemmas
+pub mod BuiltinLemmas
 pub mod PackageLemmas
 pub mod StoredLemmas
 pub mod WorldLemmas

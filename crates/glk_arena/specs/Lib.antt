@@ -1,5 +1,7 @@
 pub mod Config
 pub mod ConfigViews
+pub mod Builtins
+pub mod BuiltinLines
 pub mod Packages
 pub mod PackageViews
 pub mod World

@@ -1,6 +1,7 @@
 //! The packages of a link: which file holds a package, and which loaded package a stored path means.
 #![tactic(auto)]
 
+mod builtins;
 mod config;
 mod imports;
 mod laws;
@@ -16,6 +17,7 @@ mod stored;
 mod tests;
 mod waves;
 
+pub use builtins::{Builtin, Builtins};
 pub use config::Config;
 pub use laws::{one_file, one_load};
 pub use loaded::Loaded;

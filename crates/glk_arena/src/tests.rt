@@ -1,8 +1,8 @@
-// Import configurations, and stored paths.
+// Import configurations, builtin lists, and stored paths.
 mod loading;
 mod objects;
 
-use crate::{Config, PackageTable};
+use crate::{Builtins, Config, PackageTable};
 use glk_base::{ConfigLine, Fault, Text};
 use std::alloc::Global;
 use std::test::Fail;
@@ -85,5 +85,43 @@ fn a_stored_path_means_the_equal_one_before_the_escaped_one(rt: HostRuntime) -> 
     assert_eq!(rt; table.package_of(b"x%2ey"), Some(3));
     assert_eq!(rt; table.package_of(b"a%2eb/c%2ed"), None);
     assert_eq!(rt; table.package_of(b""), None);
+    Ok(())
+}
+
+// The number of the first bad line of a builtin list, or none where all lines are good.
+fn bad_builtin(alloc: Global, text: &[u8]) -> Result<Option<u32>, Fail> {
+    match Builtins::parse(alloc, text) {
+        Ok(_) => Ok(None),
+        Err(Fault::Bad(ConfigLine { line })) => Ok(Some(line)),
+        Err(Fault::OutOfMemory) => Err(Fail::from("out of memory")),
+    }
+}
+
+#[test]
+fn builtins_have_their_numbers(rt: HostRuntime) -> Result<(), Fail> {
+    let text = b"# builtins\nruntime.newobject 1\n\n\t runtime.tab\tname   65535 \r\n";
+    let builtins = Builtins::parse(rt.alloc(), text)?;
+    assert_eq!(rt; builtins.len(), 2);
+    let first = builtins.get(0).ok_or("the first")?;
+    assert_eq!(rt; first.name(), b"runtime.newobject".as_slice());
+    assert_eq!(rt; first.abi(), 1);
+    let second = builtins.get(1).ok_or("the second")?;
+    assert_eq!(rt; second.name(), b"runtime.tab\tname".as_slice());
+    assert_eq!(rt; second.abi(), 65535);
+    assert!(rt; builtins.get(2).is_none());
+    assert!(rt; Builtins::none(rt.alloc()).get(0).is_none());
+    for (text, want) in [
+        (b"a 0".as_slice(), None),
+        (b"a", Some(1)),
+        (b"a ", Some(1)),
+        (b"a 01", Some(1)),
+        (b"a +1", Some(1)),
+        (b"a 65536", Some(1)),
+        (b"a 1 1", Some(1)),
+        (b"a\t1", Some(1)),
+        (b"a 1\n\xff 1\nb", Some(2)),
+    ] {
+        assert_eq!(rt; bad_builtin(rt.alloc(), text)?, want, "{text:?}");
+    }
     Ok(())
 }
