@@ -32,7 +32,7 @@ abi_of n =
     else (if n == abi_internal then Some Internal
     else (if n == abi_static then Some Static else None))
 
--- Types of symbols. Those with a number from 1 to 7 are all that there are; they have content.
+-- Types of symbols that can have a place in an image. An object may have symbols of other types.
 
 -- functions
 abbrev pub text_type : ℕ
