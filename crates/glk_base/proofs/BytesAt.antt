@@ -1,5 +1,5 @@
 -- Parts of bytes at their offsets, and the numbers of fields there.
-use Rattle.std.proofs.Common.{◌≡◌, ◌∙◌, ℕ, zero, suc, ◌+◌, ◌-◌, ◌*◌, ◌%◌, ◌^◌, ◌<◌, ◌≤◌, List, [], ◌∷◌, ◌++◌, length, drop, take, map, get_or, refl, sym, ap, subst, arith, append_assoc, length-append, length-drop}
+use Rattle.std.proofs.Common.{◌≡◌, ◌∙◌, ℕ, ◌+◌, ◌-◌, ◌%◌, ◌^◌, ◌<◌, List, [], ◌∷◌, ◌++◌, length, drop, take, get_or, refl, sym, ap, subst, arith, append_assoc, length-append, length-drop}
 use Rattle.std.specs.List.{slice_range}
 use Rattle.std.proofs.lemmas.List.{drop_at, drop-drop, drop-append-le, take_at, get_or-drop, append-nil}
 use Rattle.byteorder.specs.Endian.{little_bytes, little_number}

@@ -1,6 +1,6 @@
 -- What the cuts of a word say of it.
-use Rattle.std.proofs.Common.{◌≡◌, ◌≢◌, ◌==◌, ◌<◌, ℕ, List, [], ◌∷◌, Bool, true, false, Option, Some, None, MatchOption, Bor, refl, rules, arith, ap, sym, length}
-use Rattle.glk_base.specs.Flags.{after_dash, dash}
+use Rattle.std.proofs.Common.{◌≡◌, ◌≢◌, ℕ, List, [], ◌∷◌, Option, Some, None, MatchOption, Bor, refl, arith}
+use Rattle.glk_base.specs.Flags.{after_dash}
 
 no_dash : (b : ℕ) (rest : List ℕ) → (b ≡ 45 → ⊥) → after_dash (b ∷ rest) ≡ None
 unfolding after_dash

@@ -1,5 +1,5 @@
 -- Words of a command line, read as Go's `flag` package reads them.
-use Rattle.std.specs.Prelude.{◌==◌, ◌<◌, ℕ, List, [], ◌∷◌, Bool, if◌then◌else◌, length, get_or, Option, Some, None, nat_lt}
+use Rattle.std.specs.Prelude.{◌==◌, ℕ, List, [], ◌∷◌, if◌then◌else◌, length, Option, Some, None, nat_lt}
 use Rattle.std.specs.List.{position_or_len, before_first, after_first}
 use Rattle.glk_base.specs.declared.flags.FlagWord.{FlagWord}
 use Rattle.glk_base.specs.declared.flags.FlagWord.TheVariants as word

@@ -1,8 +1,8 @@
 -- The image of placed parts is determined by the entry, the rows, and the sizes and bytes of the sections.
-use Rattle.std.proofs.Common.{◌≡◌, ◌+◌, ◌-◌, ◌<◌, ◌≤◌, ◌∙◌, inl, inr, ℕ, List, [], ◌∷◌, ◌++◌, length, take, drop, map, get_or, arith, refl, sym, ap, subst}
+use Rattle.std.proofs.Common.{◌≡◌, ◌-◌, ◌<◌, ◌≤◌, ◌∙◌, inl, inr, ℕ, List, [], ◌∷◌, ◌++◌, length, take, drop, map, get_or, arith, refl, sym, ap, subst}
 use Rattle.std.proofs.lemmas.Bool.{cases_lt}
-use Rattle.std.proofs.lemmas.List.{length-map, get_or-map, get_or-take, get_or-drop, get_or_append_left, get_or-append_right, length-take-le, length-drop}
-use Rattle.glk_elf.specs.Sections.{text, written_data, bss, tbss}
+use Rattle.std.proofs.lemmas.List.{get_or-map, get_or-take, get_or_append_left, get_or-append_right, length-take-le, length-drop}
+use Rattle.glk_elf.specs.Sections.{text, written_data, tbss}
 use Rattle.glk_elf.specs.Image.{Parts, Row, Section, section, no_section, with_placed_headers, elf_bytes}
 use Rattle.glk_elf.specs.Placing.{IsPlaced, sizes_of, addrs_of}
 use Rattle.glk_elf.proofs.Elements.{elements, elements_are}

@@ -1,8 +1,7 @@
 -- An image in which bytes of sections were changed is the image of the changed sections.
 use Rattle.std.proofs.Common.{Some, ◌≡◌, ◌+◌, ◌-◌, ◌<◌, ◌≤◌, ◌⊎◌, ⊎_elim, ◌∙◌, inl, inr, ℕ, zero, suc, List, [], ◌∷◌, ◌++◌, length, take, drop, map, replicate, get_or, arith, refl, sym, ap, subst, length-append}
-use Rattle.std.proofs.lemmas.List.{append_assoc, append-nil, length-map, get_or-map, get_or-take, get_or-drop, get_or_append_left, get_or-append_right, get_or_past, length-take-le, length-drop, take_more, drop_more, ext_get_or}
+use Rattle.std.proofs.lemmas.List.{append_assoc, append-nil, length-map, get_or-map, get_or-take, get_or-drop, get_or_append_left, get_or-append_right, get_or_past, length-take-le, length-drop, take_more, ext_get_or}
 use Rattle.std.specs.Prelude.{slice_range}
-use Rattle.std.proofs.Math.ListN.{drop_of_length-le}
 use mathlib.Core.Logic.{dite}
 use native.Mathlib.Decide.{dec_lt}
 use Rattle.glk_base.specs.Fields.{fields_bytes}

@@ -1,5 +1,5 @@
 -- What each function of the writer adds, of the parts and sections as the code has them.
-use Rattle.std.specs.Prelude.{◌≡◌, ℕ, ◌+◌, ◌-◌, List, ◌++◌, map, take}
+use Rattle.std.specs.Prelude.{◌≡◌, ℕ, ◌-◌, List, ◌++◌, map, take}
 use Rattle.glk_base.specs.Fields.{fields_bytes}
 use Rattle.glk_elf.specs.Gabi.{e_ident, elf_header_fields, program_header_bytes, section_header_bytes, symbol_bytes}
 use Rattle.glk_elf.specs.Sections.{Kind, section_names}

@@ -1,4 +1,4 @@
-use Rattle.std.proofs.Common.{rules, ◌≡◌, arith}
+use Rattle.std.proofs.Common.{arith}
 use Rattle.std.proofs.lemmas.Str.Pattern.{strip_prefix_char}
 use Rattle.glk_base.proofs.FlagWords.{dash_cut}
 use Rattle.glk_base.proofs.flags.after_dash.Goals as goal
