@@ -50,7 +50,7 @@ unfolding next_mode
 space_ends = refl
 
 -- a field before a space
-field_then : (m : Mode) (before f rest : List ℕ) → stays m f ≡ true → fields_from m before (f ++ 32 ∷ rest) ≡ (before ++ f) ∷ fields rest
+pub field_then : (m : Mode) (before f rest : List ℕ) → stays m f ≡ true → fields_from m before (f ++ 32 ∷ rest) ≡ (before ++ f) ∷ fields rest
 field_then Between before [] rest h = absurd (false≢true h)
 field_then Bare before [] rest h = byte_ends Bare before rest 32 space_ends ∙ ap (λ (g : List ℕ). g ∷ fields rest) (sym (append-nil before))
 field_then Quoted before [] rest h = absurd (false≢true h)
@@ -62,7 +62,7 @@ field_then m before (b ∷ f) rest h =
     ∙ ap (λ (g : List ℕ). g ∷ fields rest) (append_assoc before (b ∷ []) f)
 
 -- a field at the line's end
-field_last : (m : Mode) (before f : List ℕ) → stays m f ≡ true → fields_from m before f ≡ (before ++ f) ∷ []
+pub field_last : (m : Mode) (before f : List ℕ) → stays m f ≡ true → fields_from m before f ≡ (before ++ f) ∷ []
 field_last Between before [] h = absurd (false≢true h)
 field_last Bare before [] h = at_end Bare before ∙ ap (λ (g : List ℕ). g ∷ []) (sym (append-nil before))
 field_last Quoted before [] h = absurd (false≢true h)

@@ -16,3 +16,12 @@ pub mod SpeltFields
 pub mod OrderLaws
 pub mod DescriptionLaws
 pub mod TextLaws
+pub mod DigitFacts
+pub mod FieldSplits
+pub mod StringForms
+pub mod SortForms
+pub mod ValueForms
+pub mod KindFacts
+pub mod LineForms
+pub mod StageForms
+pub mod TextForms

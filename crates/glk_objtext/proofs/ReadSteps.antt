@@ -7,7 +7,8 @@ use Rattle.glk_objdesc.specs.declared.desc.ObjDesc.{ObjDesc}
 use Rattle.glk_objtext.specs.Answers.{Gives}
 use Rattle.glk_base.specs.Lines.{lines, trimmed_line, is_skipped}
 use Rattle.glk_objtext.specs.Grammar.{line_at, after, at_start}
-use Rattle.glk_objtext.specs.Reading.{read_lines, next_number, onto_lines, answer_of_lines, read_text}
+use Rattle.glk_objtext.specs.Reading.{read_lines, onto_lines, answer_of_lines, read_text}
+use Rattle.glk_objtext.specs.Rules.{next_number}
 use Rattle.glk_objtext.specs.Building.{description_with, answer_with, IsRefusedLine}
 use Rattle.glk_objtext.specs.Description.{description_of_lines}
 use Rattle.glk_objtext.specs.declared.builder.Builder.{Builder}

@@ -9,33 +9,33 @@ use Rattle.glk_objtext.specs.declared.strings.Step.TheVariants.{Into, Stands, En
 use Rattle.glk_objtext.proofs.StringSteps.{one_into, one_stands, one_end}
 use Rattle.glk_objtext.proofs.Cases.{digit_back, by_spelling}
 
-plain_pair : step Plain 92 ≡ Into Pair
+pub plain_pair : step Plain 92 ≡ Into Pair
 unfolding step
 plain_pair = refl
 
-pair_digits : step Pair 120 ≡ Into HighDigit
+pub pair_digits : step Pair 120 ≡ Into HighDigit
 unfolding step
 pair_digits = refl
 
-pair_quote : step Pair 34 ≡ Stands 34
+pub pair_quote : step Pair 34 ≡ Stands 34
 unfolding step
 pair_quote = refl
 
-pair_backslash : step Pair 92 ≡ Stands 92
+pub pair_backslash : step Pair 92 ≡ Stands 92
 unfolding step
 pair_backslash = refl
 
-high_digit : (h : ℕ) → is_low_hex h ≡ true → step HighDigit h ≡ Into (LowDigit (hex_value h))
+pub high_digit : (h : ℕ) → is_low_hex h ≡ true → step HighDigit h ≡ Into (LowDigit (hex_value h))
 unfolding step
 high_digit h low = rw low refl
 
-low_digit_gives : (high l b : ℕ) → is_low_hex l ≡ true → high * 16 + hex_value l ≡ b → 0 < b → b < 256 → step (LowDigit high) l ≡ Stands b
+pub low_digit_gives : (high l b : ℕ) → is_low_hex l ≡ true → high * 16 + hex_value l ≡ b → 0 < b → b < 256 → step (LowDigit high) l ≡ Stands b
 unfolding step
 low_digit_gives high l b low is some small =
     let escaped_byte : is_escaped_byte b ≡ true = grind arith in
     rw (low, is, escaped_byte) refl
 
-plain_byte : (b : ℕ) → eqb b 34 ≡ false → eqb b 92 ≡ false → is_printed b ≡ true → step Plain b ≡ Stands b
+pub plain_byte : (b : ℕ) → eqb b 34 ≡ false → eqb b 92 ≡ false → is_printed b ≡ true → step Plain b ≡ Stands b
 unfolding step
 plain_byte b q s p = rw (q, s, p) refl
 
@@ -88,7 +88,7 @@ inside_one b rest some small =
 pub rest_of : (b : ℕ) (s : List ℕ) → NoZeros (b ∷ s) → NoZeros s
 rest_of b s h = record { some = λ i k. h.some (suc i) (omega arith); small = λ i. h.small (suc i) }
 
-end_step : step Plain 34 ≡ End
+pub end_step : step Plain 34 ≡ End
 unfolding step
 end_step = refl
 
@@ -98,7 +98,7 @@ inside_all (b ∷ s) h =
     rw (append_assoc (byte_escape b) (flat_map byte_escape s) (34 ∷ []))
     (inside_one b (flat_map byte_escape s ++ 34 ∷ []) (h.some 0 (omega arith)) (h.small 0) ∙ ap (onto b) (inside_all s (rest_of b s h)))
 
-quoted_not_bare : (s : List ℕ) → is_bare (34 ∷ s) ≡ false
+pub quoted_not_bare : (s : List ℕ) → is_bare (34 ∷ s) ≡ false
 unfolding is_bare is_bare_byte
 quoted_not_bare s = refl
 

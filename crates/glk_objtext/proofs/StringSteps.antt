@@ -31,7 +31,7 @@ pub one_end : (at : Inside) (b : ℕ) (s : List ℕ) → step at b ≡ End → i
 unfolding inside
 one_end at b s h = rw (h, inside) refl
 
-one_broken : (at : Inside) (b : ℕ) (s : List ℕ) → step at b ≡ Broken → inside at (b ∷ s) ≡ None
+pub one_broken : (at : Inside) (b : ℕ) (s : List ℕ) → step at b ≡ Broken → inside at (b ∷ s) ≡ None
 unfolding inside
 one_broken at b s h = rw (h, inside) refl
 
@@ -71,7 +71,7 @@ breaks_here at out bytes i rule all h is had =
     let none : behind out (inside at (drop i bytes)) ≡ None = ap (behind out) (at_byte at bytes i h ∙ one_broken at (get_or bytes i 0) (drop (i + 1) bytes) is) in
     rw (sym had ∙ none) refl
 
-open_end : (at : Inside) → inside at [] ≡ None
+pub open_end : (at : Inside) → inside at [] ≡ None
 unfolding inside
 open_end at = refl
 

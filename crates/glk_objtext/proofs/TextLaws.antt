@@ -11,7 +11,8 @@ use Rattle.glk_objdesc.specs.declared.desc.ObjDesc.{ObjDesc}
 use Rattle.glk_objtext.specs.Bytes.{HasBytes, HasBytesDef}
 use Rattle.glk_objtext.specs.Grammar.{at_start, after, line_at}
 use Rattle.glk_base.specs.Lines.{trimmed_line, is_skipped}
-use Rattle.glk_objtext.specs.Reading.{read_lines, read_text, next_number, onto_lines, answer_of_lines}
+use Rattle.glk_objtext.specs.Reading.{read_lines, read_text, onto_lines, answer_of_lines}
+use Rattle.glk_objtext.specs.Rules.{next_number}
 use Rattle.glk_objtext.specs.Text.{after_space, fields_of_line, line_text, content_lines, def_lines, lines_of, text_of}
 use Rattle.glk_objtext.specs.Values.{word_of_line}
 use Rattle.glk_objtext.specs.Words.{spelling, word_of, word_among, arity}

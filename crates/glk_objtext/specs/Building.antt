@@ -5,7 +5,8 @@ use Rattle.glk_base.specs.declared.fault.Fault.TheVariants.{Bad, OutOfMemory}
 use Rattle.glk_objdesc.specs.declared.desc.DefDesc.{DefDesc}
 use Rattle.glk_objdesc.specs.declared.desc.ObjDesc.{ObjDesc}
 use Rattle.glk_objtext.specs.Description.{flags_from, fingerprint_from, imports, packages, sources, references, flag_records, ref_names, content_under, relocs_under, auxes_under, block_number, definitions}
-use Rattle.glk_objtext.specs.Reading.{next_number, read_lines}
+use Rattle.glk_objtext.specs.Reading.{read_lines}
+use Rattle.glk_objtext.specs.Rules.{next_number}
 use Rattle.glk_objtext.specs.declared.read.TextBad.{TextBad}
 use Rattle.glk_objtext.specs.declared.stage.Stage.{Stage}
 use Rattle.glk_objtext.specs.declared.builder.Builder.{Builder}

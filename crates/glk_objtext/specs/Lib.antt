@@ -13,3 +13,8 @@ pub mod Building
 pub mod Text
 pub mod Bytes
 pub mod Laws
+pub mod Forms
+pub mod FormLaws
+pub mod Kinds
+pub mod Entries
+pub mod Rules

@@ -1,17 +1,14 @@
 -- What a text says as a whole.
-use Rattle.std.specs.Prelude.{◌==◌, ◌+◌, ◌-◌, ◌^◌, min, ℕ, List, ◌∷◌, [], if◌then◌else◌, Result, Ok, Err}
+use Rattle.std.specs.Prelude.{◌==◌, ℕ, List, ◌∷◌, [], if◌then◌else◌, Result, Ok, Err}
 use Rattle.glk_objdesc.specs.declared.desc.ObjDesc.{ObjDesc}
 use Rattle.glk_objtext.specs.Answers.{misplaced_object}
 use Rattle.glk_base.specs.Lines.{lines, trimmed_line, is_skipped}
 use Rattle.glk_objtext.specs.Grammar.{at_start, after, line_at}
 use Rattle.glk_objtext.specs.Description.{description_of_lines}
+use Rattle.glk_objtext.specs.Rules.{next_number}
 use Rattle.glk_objtext.specs.declared.line.Line.{Line}
 use Rattle.glk_objtext.specs.declared.read.TextBad.{TextBad}
 use Rattle.glk_objtext.specs.declared.stage.Stage.{Stage}
-
--- the number of the next line; the last number that fits stands for all lines further on
-abbrev pub next_number : ℕ → ℕ
-next_number n = min (n + 1) (2 ^ 32 - 1)
 
 -- a line before those that follow, unless one of these is bad
 abbrev pub onto_lines : Line → Result (List Line) TextBad → Result (List Line) TextBad

@@ -2,6 +2,7 @@
 ghost use Rattle.std.specs.Prelude.{◌≡◌, Ok};
 ghost use Rattle.glk_objdesc.specs.Printable.{IsPrintable};
 ghost use Rattle.glk_objtext.specs.Laws.{NumbersReadBack, SignedReadBack, OctetsReadBack, ReferencesReadBack, StringsReadBack, TextsReadBack};
+ghost use Rattle.glk_objtext.specs.FormLaws.{BadLinesAreThose, FieldsAreThose, NumbersAreThose, SignedAreThose, OctetsAreThose, SizedAreThose, ReferencesAreThose, StringsAreThose};
 ghost use Rattle.glk_objtext.specs.Reading.{read_text};
 ghost use Rattle.glk_objtext.specs.Text.{text_of};
 
@@ -36,3 +37,21 @@ pub fn printed_is_read(d: &ObjDesc)
     see_types(d);
     see_bytes(d);
 }
+
+/// A line is cut into the fields that the text form gives it, and a field reads as what it spells by
+/// that form, and as nothing else. The function does nothing; its clauses are the law.
+pub fn fields_are_spelled()
+    ensures fields { FieldsAreThose }
+    ensures numbers { NumbersAreThose }
+    ensures signed_numbers { SignedAreThose }
+    ensures octets { OctetsAreThose }
+    ensures sized { SizedAreThose }
+    ensures references { ReferencesAreThose }
+    ensures strings { StringsAreThose }
+{}
+
+/// A text is refused for the first line that breaks a rule of the text form, with the least rule that
+/// it breaks, and for nothing else. The function does nothing; its clause is the law.
+pub fn first_bad_line_is_read()
+    ensures { BadLinesAreThose }
+{}

@@ -1,0 +1,38 @@
+-- Laws of fields, as statements: a line is cut into the fields that the text form gives it, and a field
+-- reads as what it spells, and as nothing else.
+use Rattle.std.specs.Prelude.{◌≡◌, ◌≤◌, ◌<◌, ◌^◌, ◌↔◌, ℕ, ℤ, List, length, Ok, Err}
+use Rattle.glk_obj.specs.declared.records.SymRef.{SymRef}
+use Rattle.glk_objtext.specs.Fields.{fields}
+use Rattle.glk_objtext.specs.Forms.{HasFields, IsNumber, IsSigned, IsOctets, IsSized, IsReference, IsString}
+use Rattle.glk_objtext.specs.Numbers.{number_of, signed_of}
+use Rattle.glk_objtext.specs.Octets.{octets_of, sized_of}
+use Rattle.glk_objtext.specs.Reading.{read_text}
+use Rattle.glk_objtext.specs.Rules.{IsFirstBadOf}
+use Rattle.glk_objtext.specs.Strings.{string_of}
+use Rattle.glk_objtext.specs.Targets.{target_of}
+use Rattle.glk_objtext.specs.declared.read.TextBad.{TextBad}
+
+abbrev pub FieldsAreThose : Type 0
+FieldsAreThose = (line : List ℕ) (fs : List (List ℕ)) → HasFields line fs ↔ (fs ≡ fields line)
+
+abbrev pub NumbersAreThose : Type 0
+NumbersAreThose = (limit : ℕ) (field : List ℕ) (n : ℕ) → limit ≤ 2 ^ 64 → (number_of limit field ≡ Ok n) ↔ IsNumber limit field n
+
+abbrev pub SignedAreThose : Type 0
+SignedAreThose = (limit : ℕ) (field : List ℕ) (z : ℤ) → limit ≤ 2 ^ 63 → (signed_of limit field ≡ Ok z) ↔ IsSigned limit field z
+
+-- no field of a line is empty
+abbrev pub OctetsAreThose : Type 0
+OctetsAreThose = (field s : List ℕ) → 0 < length field → (octets_of field ≡ Ok s) ↔ IsOctets field s
+
+abbrev pub SizedAreThose : Type 0
+SizedAreThose = (n : ℕ) (field s : List ℕ) → 0 < n → (sized_of n field ≡ Ok s) ↔ IsSized n field s
+
+abbrev pub ReferencesAreThose : Type 0
+ReferencesAreThose = (field : List ℕ) (r : SymRef) → (target_of field ≡ Ok r) ↔ IsReference field r
+
+abbrev pub StringsAreThose : Type 0
+StringsAreThose = (field s : List ℕ) → (string_of field ≡ Ok s) ↔ IsString field s
+
+abbrev pub BadLinesAreThose : Type 0
+BadLinesAreThose = (text : List ℕ) (bad : TextBad) → (read_text text ≡ Err bad) ↔ IsFirstBadOf text bad
