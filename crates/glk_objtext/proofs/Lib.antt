@@ -25,3 +25,5 @@ pub mod KindFacts
 pub mod LineForms
 pub mod StageForms
 pub mod TextForms
+pub mod ObjectForms
+pub mod OneObject

@@ -9,7 +9,7 @@ use Rattle.glk_objtext.specs.Forms.{IsOctets}
 use Rattle.glk_objtext.specs.Grammar.{at_start, after, line_at, begins_well, is_ordered, has_room, fits_width, is_hash_width, rank_after, part_after, width_after}
 use Rattle.glk_objtext.specs.Kinds.{Kind, kind_word, kind_place, kind_sorts, may_follow, may_begin, HasMalformed}
 use Rattle.glk_objtext.specs.Kinds.Kind.{object_line, hash_line}
-use Rattle.glk_objtext.specs.Rules.{Fields, SomeLine, IsOfKind, IsPast, HasHashLength, HasOtherLength, MayStand, Rule, rule_number, Breaks, BreaksFirst, IsGoodLine}
+use Rattle.glk_objtext.specs.Rules.{LineFields, SomeLine, IsOfKind, IsPast, HasHashLength, HasOtherLength, MayStand, Rule, rule_number, Breaks, BreaksFirst, IsGoodLine}
 use Rattle.glk_objtext.specs.Rules.Rule.{X1, X2, X3, X4, X5, X6, X7, X8}
 use Rattle.glk_objtext.specs.Values.{value_of, word_of_line}
 use Rattle.glk_objtext.specs.Words.{word_of, arity, rank}
@@ -30,16 +30,16 @@ use Rattle.glk_objtext.proofs.SortForms.{octets_are, same_ok}
 -- What the lines above tell of a stage.
 
 -- the part that is open is what the nearest line began
-abbrev pub IsPartOf : List Fields → Part → Type 0
+abbrev pub IsPartOf : List LineFields → Part → Type 0
 IsPartOf [] part = part ≡ Outside
 IsPartOf (fs ∷ above) part = (w : Word) × IsOfKind (kind_of w) fs × (part ≡ part_after w)
 
 -- the length of long hashes is that of each above
-abbrev pub IsWidthOf : List Fields → Option ℕ → Type 0
+abbrev pub IsWidthOf : List LineFields → Option ℕ → Type 0
 IsWidthOf above None = (n : ℕ) → ¬ SomeLine (HasHashLength n) above
 IsWidthOf above (Some n) = SomeLine (HasHashLength n) above × (¬ SomeLine (HasOtherLength n) above)
 
-pub record IsReached (above : List Fields) (stage : Stage) : Type 0 where
+pub record IsReached (above : List LineFields) (stage : Stage) : Type 0 where
   pub none : stage.rank ≡ 0 → above ≡ []
   pub some : above ≡ [] → stage.rank ≡ 0
   pub past : (n : ℕ) → n < stage.rank → SomeLine (IsPast n) above
@@ -84,7 +84,7 @@ object_begins stage = refl
 abbrev Tells : Bool → Type 0 → Type 0
 Tells good Broken = ((good ≡ false) → Broken) × ((good ≡ true) → ¬ Broken)
 
-begins_tell : (above : List Fields) (stage : Stage) (fs : Fields) (w : Word) → IsReached above stage → IsOfKind (kind_of w) fs → Tells (begins_well stage w) (Breaks above fs X2)
+begins_tell : (above : List LineFields) (stage : Stage) (fs : LineFields) (w : Word) → IsReached above stage → IsOfKind (kind_of w) fs → Tells (begins_well stage w) (Breaks above fs X2)
 begins_tell above stage fs w at is = elim (is_object w) [
   | inl e ↦
       let object : IsOfKind object_line fs = subst (λ (x : Word). IsOfKind (kind_of x) fs) e is in
@@ -127,7 +127,7 @@ placed_so Ref = inr (omega arith, λ s. refl, λ r. refl)
 placed_so RefFlags = inr (omega arith, λ s. refl, λ r. refl)
 placed_so RefName = inr (omega arith, λ s. refl, λ r. refl)
 
-order_tells : (above : List Fields) (stage : Stage) (fs : Fields) (w : Word) → IsReached above stage → IsOfKind (kind_of w) fs → Tells (is_ordered stage w) (Breaks above fs X3)
+order_tells : (above : List LineFields) (stage : Stage) (fs : LineFields) (w : Word) → IsReached above stage → IsOfKind (kind_of w) fs → Tells (is_ordered stage w) (Breaks above fs X3)
 order_tells above stage fs w at is = elim (placed_so w) [
   | inl none ↦ (
     λ h. absurd (true≢false (sym (none.1 stage) ∙ h)),
@@ -150,7 +150,7 @@ order_tells above stage fs w at is = elim (placed_so w) [
 ]
 
 -- the parts of definitions
-may_tells : (above : List Fields) (part : Part) (w : Word) → IsPartOf above part → Tells (has_room part w) (¬ MayStand (kind_of w) above)
+may_tells : (above : List LineFields) (part : Part) (w : Word) → IsPartOf above part → Tells (has_room part w) (¬ MayStand (kind_of w) above)
 may_tells [] part w is =
     let e : has_room part w ≡ may_begin (kind_of w) = ap (λ (p : Part). has_room p w) is ∙ room_begins w in
     (λ h may. false≢true (sym (sym e ∙ h) ∙ may), λ h lack. lack (sym e ∙ h))
@@ -163,7 +163,7 @@ may_tells (fs ∷ above) part w is =
       λ h lack. lack (kind_of v, is.1, sym e ∙ h),
     )
 
-room_tells : (above : List Fields) (stage : Stage) (fs : Fields) (w : Word) → IsReached above stage → IsOfKind (kind_of w) fs → Tells (has_room stage.part w) (Breaks above fs X7)
+room_tells : (above : List LineFields) (stage : Stage) (fs : LineFields) (w : Word) → IsReached above stage → IsOfKind (kind_of w) fs → Tells (has_room stage.part w) (Breaks above fs X7)
 room_tells above stage fs w at is =
     let may = may_tells above stage.part w at.part in (
       λ h. (kind_of w, is, may.0 h),
@@ -175,22 +175,22 @@ room_tells above stage fs w at is =
 -- The length of long hashes.
 
 -- a line of `hash` has one length
-one_length : (fs : Fields) (n : ℕ) (hash : List ℕ) → IsOctets (field_at fs 8) hash → HasHashLength n fs → n ≡ length hash
+one_length : (fs : LineFields) (n : ℕ) (hash : List ℕ) → IsOctets (field_at fs 8) hash → HasHashLength n fs → n ≡ length hash
 one_length fs n hash is own =
     let e : own.1 ≡ hash = same_ok own.1 hash (sym (octets_are (field_at fs 8) own.1 own.2) ∙ octets_are (field_at fs 8) hash is) in
     sym own.3 ∙ ap length e
 
-some_other : (n m : ℕ) (above : List Fields) → ¬ (m ≡ n) → SomeLine (HasHashLength m) above → SomeLine (HasOtherLength n) above
+some_other : (n m : ℕ) (above : List LineFields) → ¬ (m ≡ n) → SomeLine (HasHashLength m) above → SomeLine (HasOtherLength n) above
 some_other n m [] other h = h
 some_other n m (fs ∷ above) other (inl h) = inl (m, h, other)
 some_other n m (fs ∷ above) other (inr h) = inr (some_other n m above other h)
 
-other_some : (n : ℕ) (above : List Fields) → SomeLine (HasOtherLength n) above → (m : ℕ) × SomeLine (HasHashLength m) above
+other_some : (n : ℕ) (above : List LineFields) → SomeLine (HasOtherLength n) above → (m : ℕ) × SomeLine (HasHashLength m) above
 other_some n [] h = absurd h
 other_some n (fs ∷ above) (inl h) = (h.0, inl h.1)
 other_some n (fs ∷ above) (inr h) = let more = other_some n above h in (more.0, inr more.1)
 
-width_good : (above : List Fields) (width : Option ℕ) (n : ℕ) → IsWidthOf above width → is_hash_width width n ≡ true
+width_good : (above : List LineFields) (width : Option ℕ) (n : ℕ) → IsWidthOf above width → is_hash_width width n ≡ true
     → ¬ ((n < 8) ⊎ ((64 < n) ⊎ SomeLine (HasOtherLength n) above))
 unfolding is_hash_width
 width_good above None n at h b =
@@ -212,10 +212,10 @@ width_good above (Some m) n at h b =
       | inr more ↦ elim more [ inl many ↦ omega arith | inr other ↦ at.1 (subst (λ (k : ℕ). SomeLine (HasOtherLength k) above) same other) ]
     ]
 
-out_of_range : (above : List Fields) (n : ℕ) → (nat_le 8 n && nat_le n 64) ≡ false → (n < 8) ⊎ ((64 < n) ⊎ SomeLine (HasOtherLength n) above)
+out_of_range : (above : List LineFields) (n : ℕ) → (nat_le 8 n && nat_le n 64) ≡ false → (n < 8) ⊎ ((64 < n) ⊎ SomeLine (HasOtherLength n) above)
 out_of_range above n h = elim (and_cases (nat_le 8 n) (nat_le n 64) h) [ inl few ↦ inl (leb-false 8 n few) | inr many ↦ inr (inl (leb-false n 64 many)) ]
 
-width_bad : (above : List Fields) (width : Option ℕ) (n : ℕ) → IsWidthOf above width → is_hash_width width n ≡ false
+width_bad : (above : List LineFields) (width : Option ℕ) (n : ℕ) → IsWidthOf above width → is_hash_width width n ≡ false
     → (n < 8) ⊎ ((64 < n) ⊎ SomeLine (HasOtherLength n) above)
 unfolding is_hash_width
 width_bad above None n at h = out_of_range above n h
@@ -228,7 +228,7 @@ width_bad above (Some m) n at h = elim (and_cases (nat_le 8 n && nat_le n 64) (e
 abbrev IsNoHash : Line → Type 0
 IsNoHash line = (¬ (hash_line ≡ kind_of (word_of_line line))) × ((width : Option ℕ) → fits_width width line ≡ true) × ((width : Option ℕ) → width_after width line ≡ width)
 
-hash_or_not : (line : Line) → ((hash : List ℕ) × (kind_of (word_of_line line) ≡ hash_line) × ((fs : Fields) → Holds fs line → IsOctets (field_at fs 8) hash)
+hash_or_not : (line : Line) → ((hash : List ℕ) × (kind_of (word_of_line line) ≡ hash_line) × ((fs : LineFields) → Holds fs line → IsOctets (field_at fs 8) hash)
     × ((width : Option ℕ) → fits_width width line ≡ is_hash_width width (length hash)) × ((width : Option ℕ) → width_after width line ≡ Some (length hash))) ⊎ IsNoHash line
 unfolding fits_width width_after
 hash_or_not (Header flags fingerprint) = inr (λ e. cc, λ w. refl, λ w. refl)
@@ -247,17 +247,17 @@ hash_or_not (Flags r) = inr (λ e. cc, λ w. refl, λ w. refl)
 hash_or_not (Named r) = inr (λ e. cc, λ w. refl, λ w. refl)
 
 -- a line that holds a value
-pub record IsLineOf (fs : Fields) (line : Line) : Type 0 where
+pub record IsLineOf (fs : LineFields) (line : Line) : Type 0 where
   pub kind : IsOfKind (kind_of (word_of_line line)) fs
   pub holds : Holds fs line
 
-own_length : (fs : Fields) (line : Line) (hash : List ℕ) → kind_of (word_of_line line) ≡ hash_line → IsOctets (field_at fs 8) hash → IsLineOf fs line → HasHashLength (length hash) fs
+own_length : (fs : LineFields) (line : Line) (hash : List ℕ) → kind_of (word_of_line line) ≡ hash_line → IsOctets (field_at fs 8) hash → IsLineOf fs line → HasHashLength (length hash) fs
 own_length fs line hash e is of_line = (of_line.kind ∙ ap kind_word e, hash, is, refl)
 
-no_length : (fs : Fields) (line : Line) (n : ℕ) → IsNoHash line → IsLineOf fs line → ¬ HasHashLength n fs
+no_length : (fs : LineFields) (line : Line) (n : ℕ) → IsNoHash line → IsLineOf fs line → ¬ HasHashLength n fs
 no_length fs line n lack of_line h = lack.0 (kind_only (field_at fs 0) (word_of_line line) hash_line of_line.kind h.0)
 
-width_tells : (above : List Fields) (stage : Stage) (fs : Fields) (line : Line) → IsReached above stage → IsLineOf fs line → Tells (fits_width stage.width line) (Breaks above fs X8)
+width_tells : (above : List LineFields) (stage : Stage) (fs : LineFields) (line : Line) → IsReached above stage → IsLineOf fs line → Tells (fits_width stage.width line) (Breaks above fs X8)
 width_tells above stage fs line at of_line = elim (hash_or_not line) [
   | inl is ↦
       let octets = is.2 fs of_line.holds in
@@ -279,10 +279,10 @@ begun_rank stage w none h e = elim (is_object w) [
   | inr other ↦ eqb-false stage.rank 0 (not-true (eqb stage.rank 0) (sym (other.0 stage) ∙ h)) e
 ]
 
-no_lines : (fs : Fields) (above : List Fields) → fs ∷ above ≡ [] → ⊥
+no_lines : (fs : LineFields) (above : List LineFields) → fs ∷ above ≡ [] → ⊥
 no_lines fs above h = cc
 
-width_more : (above : List Fields) (width : Option ℕ) (fs : Fields) (line : Line) → IsWidthOf above width → IsLineOf fs line → (¬ Breaks above fs X8) → IsWidthOf (fs ∷ above) (width_after width line)
+width_more : (above : List LineFields) (width : Option ℕ) (fs : LineFields) (line : Line) → IsWidthOf above width → IsLineOf fs line → (¬ Breaks above fs X8) → IsWidthOf (fs ∷ above) (width_after width line)
 width_more above width fs line at of_line good = elim (hash_or_not line) [
   | inl is ↦
       let octets = is.2 fs of_line.holds in
@@ -302,7 +302,7 @@ width_more above width fs line at of_line good = elim (hash_or_not line) [
     same_width None h lack = λ n b. elim b [ inl here ↦ no_length fs line n lack of_line here | inr there ↦ h n there ]
     same_width (Some n) h lack = (inr h.0, λ b. elim b [ inl here ↦ no_length fs line here.0 lack of_line here.1 | inr there ↦ h.1 there ])
 
-pub taken_on : (above : List Fields) (stage : Stage) (fs : Fields) (line : Line) → IsReached above stage → IsLineOf fs line
+pub taken_on : (above : List LineFields) (stage : Stage) (fs : LineFields) (line : Line) → IsReached above stage → IsLineOf fs line
     → begins_well stage (word_of_line line) ≡ true → is_ordered stage (word_of_line line) ≡ true → (¬ Breaks above fs X8) → IsReached (fs ∷ above) (after stage line)
 unfolding after
 taken_on above stage fs line at of_line begun sorted good =
@@ -349,7 +349,7 @@ taken_on above stage fs line at of_line begun sorted good =
 
 -- The least rule.
 
-first1 : (above : List Fields) (fs : Fields) → Breaks above fs X1 → BreaksFirst above fs X1
+first1 : (above : List LineFields) (fs : LineFields) → Breaks above fs X1 → BreaksFirst above fs X1
 first1 above fs b = record { broken = b; least = below }
   where
     below : (other : Rule) → rule_number other < 1 → ¬ Breaks above fs other
@@ -362,7 +362,7 @@ first1 above fs b = record { broken = b; least = below }
     below X7 h = absurd (omega arith)
     below X8 h = absurd (omega arith)
 
-first2 : (above : List Fields) (fs : Fields) → (¬ Breaks above fs X1) → Breaks above fs X2 → BreaksFirst above fs X2
+first2 : (above : List LineFields) (fs : LineFields) → (¬ Breaks above fs X1) → Breaks above fs X2 → BreaksFirst above fs X2
 first2 above fs n1 b = record { broken = b; least = below }
   where
     below : (other : Rule) → rule_number other < 2 → ¬ Breaks above fs other
@@ -375,7 +375,7 @@ first2 above fs n1 b = record { broken = b; least = below }
     below X7 h = absurd (omega arith)
     below X8 h = absurd (omega arith)
 
-first3 : (above : List Fields) (fs : Fields) → (¬ Breaks above fs X1) → (¬ Breaks above fs X2) → Breaks above fs X3 → BreaksFirst above fs X3
+first3 : (above : List LineFields) (fs : LineFields) → (¬ Breaks above fs X1) → (¬ Breaks above fs X2) → Breaks above fs X3 → BreaksFirst above fs X3
 first3 above fs n1 n2 b = record { broken = b; least = below }
   where
     below : (other : Rule) → rule_number other < 3 → ¬ Breaks above fs other
@@ -388,7 +388,7 @@ first3 above fs n1 n2 b = record { broken = b; least = below }
     below X7 h = absurd (omega arith)
     below X8 h = absurd (omega arith)
 
-first4 : (above : List Fields) (fs : Fields) → (¬ Breaks above fs X1) → (¬ Breaks above fs X2) → (¬ Breaks above fs X3) → Breaks above fs X4 → BreaksFirst above fs X4
+first4 : (above : List LineFields) (fs : LineFields) → (¬ Breaks above fs X1) → (¬ Breaks above fs X2) → (¬ Breaks above fs X3) → Breaks above fs X4 → BreaksFirst above fs X4
 first4 above fs n1 n2 n3 b = record { broken = b; least = below }
   where
     below : (other : Rule) → rule_number other < 4 → ¬ Breaks above fs other
@@ -401,7 +401,7 @@ first4 above fs n1 n2 n3 b = record { broken = b; least = below }
     below X7 h = absurd (omega arith)
     below X8 h = absurd (omega arith)
 
-first5 : (above : List Fields) (fs : Fields) → (¬ Breaks above fs X1) → (¬ Breaks above fs X2) → (¬ Breaks above fs X3) → (¬ Breaks above fs X4) → Breaks above fs X5 → BreaksFirst above fs X5
+first5 : (above : List LineFields) (fs : LineFields) → (¬ Breaks above fs X1) → (¬ Breaks above fs X2) → (¬ Breaks above fs X3) → (¬ Breaks above fs X4) → Breaks above fs X5 → BreaksFirst above fs X5
 first5 above fs n1 n2 n3 n4 b = record { broken = b; least = below }
   where
     below : (other : Rule) → rule_number other < 5 → ¬ Breaks above fs other
@@ -414,7 +414,7 @@ first5 above fs n1 n2 n3 n4 b = record { broken = b; least = below }
     below X7 h = absurd (omega arith)
     below X8 h = absurd (omega arith)
 
-first6 : (above : List Fields) (fs : Fields) → (¬ Breaks above fs X1) → (¬ Breaks above fs X2) → (¬ Breaks above fs X3) → (¬ Breaks above fs X4) → (¬ Breaks above fs X5) → Breaks above fs X6 → BreaksFirst above fs X6
+first6 : (above : List LineFields) (fs : LineFields) → (¬ Breaks above fs X1) → (¬ Breaks above fs X2) → (¬ Breaks above fs X3) → (¬ Breaks above fs X4) → (¬ Breaks above fs X5) → Breaks above fs X6 → BreaksFirst above fs X6
 first6 above fs n1 n2 n3 n4 n5 b = record { broken = b; least = below }
   where
     below : (other : Rule) → rule_number other < 6 → ¬ Breaks above fs other
@@ -427,7 +427,7 @@ first6 above fs n1 n2 n3 n4 n5 b = record { broken = b; least = below }
     below X7 h = absurd (omega arith)
     below X8 h = absurd (omega arith)
 
-first7 : (above : List Fields) (fs : Fields) → (¬ Breaks above fs X1) → (¬ Breaks above fs X2) → (¬ Breaks above fs X3) → (¬ Breaks above fs X4) → (¬ Breaks above fs X5) → (¬ Breaks above fs X6) → Breaks above fs X7 → BreaksFirst above fs X7
+first7 : (above : List LineFields) (fs : LineFields) → (¬ Breaks above fs X1) → (¬ Breaks above fs X2) → (¬ Breaks above fs X3) → (¬ Breaks above fs X4) → (¬ Breaks above fs X5) → (¬ Breaks above fs X6) → Breaks above fs X7 → BreaksFirst above fs X7
 first7 above fs n1 n2 n3 n4 n5 n6 b = record { broken = b; least = below }
   where
     below : (other : Rule) → rule_number other < 7 → ¬ Breaks above fs other
@@ -440,7 +440,7 @@ first7 above fs n1 n2 n3 n4 n5 n6 b = record { broken = b; least = below }
     below X7 h = absurd (omega arith)
     below X8 h = absurd (omega arith)
 
-first8 : (above : List Fields) (fs : Fields) → (¬ Breaks above fs X1) → (¬ Breaks above fs X2) → (¬ Breaks above fs X3) → (¬ Breaks above fs X4) → (¬ Breaks above fs X5) → (¬ Breaks above fs X6) → (¬ Breaks above fs X7) → Breaks above fs X8 → BreaksFirst above fs X8
+first8 : (above : List LineFields) (fs : LineFields) → (¬ Breaks above fs X1) → (¬ Breaks above fs X2) → (¬ Breaks above fs X3) → (¬ Breaks above fs X4) → (¬ Breaks above fs X5) → (¬ Breaks above fs X6) → (¬ Breaks above fs X7) → Breaks above fs X8 → BreaksFirst above fs X8
 first8 above fs n1 n2 n3 n4 n5 n6 n7 b = record { broken = b; least = below }
   where
     below : (other : Rule) → rule_number other < 8 → ¬ Breaks above fs other
@@ -453,7 +453,7 @@ first8 above fs n1 n2 n3 n4 n5 n6 n7 b = record { broken = b; least = below }
     below X7 h = n7
     below X8 h = absurd (omega arith)
 
-all_kept : (above : List Fields) (fs : Fields) → (¬ Breaks above fs X1) → (¬ Breaks above fs X2) → (¬ Breaks above fs X3) → (¬ Breaks above fs X4) → (¬ Breaks above fs X5) → (¬ Breaks above fs X6) → (¬ Breaks above fs X7) → (¬ Breaks above fs X8) → IsGoodLine above fs
+all_kept : (above : List LineFields) (fs : LineFields) → (¬ Breaks above fs X1) → (¬ Breaks above fs X2) → (¬ Breaks above fs X3) → (¬ Breaks above fs X4) → (¬ Breaks above fs X5) → (¬ Breaks above fs X6) → (¬ Breaks above fs X7) → (¬ Breaks above fs X8) → IsGoodLine above fs
 all_kept above fs n1 n2 n3 n4 n5 n6 n7 n8 X1 = n1
 all_kept above fs n1 n2 n3 n4 n5 n6 n7 n8 X2 = n2
 all_kept above fs n1 n2 n3 n4 n5 n6 n7 n8 X3 = n3
@@ -464,12 +464,12 @@ all_kept above fs n1 n2 n3 n4 n5 n6 n7 n8 X7 = n7
 all_kept above fs n1 n2 n3 n4 n5 n6 n7 n8 X8 = n8
 
 -- What is known of the next line: it is taken, and is a good one, or it breaks a rule first.
-abbrev pub LineVerdict : List Fields → Stage → List ℕ → Type 0
+abbrev pub LineVerdict : List LineFields → Stage → List ℕ → Type 0
 LineVerdict above stage line =
     ((value : Line) × (line_at stage line ≡ Ok value) × IsLineOf (fields line) value × IsGoodLine above (fields line) × IsReached (fields line ∷ above) (after stage value))
     ⊎ ((rule : Rule) × (line_at stage line ≡ Err (rule_number rule)) × BreaksFirst above (fields line) rule)
 
-pub line_verdict : (above : List Fields) (stage : Stage) (line : List ℕ) → IsReached above stage → LineVerdict above stage line
+pub line_verdict : (above : List LineFields) (stage : Stage) (line : List ℕ) → IsReached above stage → LineVerdict above stage line
 unfolding line_at
 line_verdict above stage line at =
     let fs = fields line in

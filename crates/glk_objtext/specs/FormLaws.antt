@@ -2,12 +2,14 @@
 -- reads as what it spells, and as nothing else.
 use Rattle.std.specs.Prelude.{◌≡◌, ◌≤◌, ◌<◌, ◌^◌, ◌↔◌, ℕ, ℤ, List, length, Ok, Err}
 use Rattle.glk_obj.specs.declared.records.SymRef.{SymRef}
+use Rattle.glk_objdesc.specs.declared.desc.ObjDesc.{ObjDesc}
 use Rattle.glk_objtext.specs.Fields.{fields}
 use Rattle.glk_objtext.specs.Forms.{HasFields, IsNumber, IsSigned, IsOctets, IsSized, IsReference, IsString}
 use Rattle.glk_objtext.specs.Numbers.{number_of, signed_of}
 use Rattle.glk_objtext.specs.Octets.{octets_of, sized_of}
 use Rattle.glk_objtext.specs.Reading.{read_text}
 use Rattle.glk_objtext.specs.Rules.{IsFirstBadOf}
+use Rattle.glk_objtext.specs.Spelled.{Spells}
 use Rattle.glk_objtext.specs.Strings.{string_of}
 use Rattle.glk_objtext.specs.Targets.{target_of}
 use Rattle.glk_objtext.specs.declared.read.TextBad.{TextBad}
@@ -36,3 +38,6 @@ StringsAreThose = (field s : List ℕ) → (string_of field ≡ Ok s) ↔ IsStri
 
 abbrev pub BadLinesAreThose : Type 0
 BadLinesAreThose = (text : List ℕ) (bad : TextBad) → (read_text text ≡ Err bad) ↔ IsFirstBadOf text bad
+
+abbrev pub DescriptionsAreThose : Type 0
+DescriptionsAreThose = (text : List ℕ) (d : ObjDesc) → (read_text text ≡ Ok d) ↔ Spells text d

@@ -18,3 +18,4 @@ pub mod FormLaws
 pub mod Kinds
 pub mod Entries
 pub mod Rules
+pub mod Spelled

@@ -8,32 +8,32 @@ use Rattle.glk_objtext.specs.Kinds.{Kind, kind_word, kind_place, kind_sorts, may
 use Rattle.glk_objtext.specs.Kinds.Kind.{object_line, hash_line}
 use Rattle.glk_objtext.specs.declared.read.TextBad.{TextBad}
 
--- A line as its fields; the word is the field of number 0.
-abbrev pub Fields : Type 0
-Fields = List (List ℕ)
+-- a line as its fields; the word is the field of number 0.
+abbrev pub LineFields : Type 0
+LineFields = List (List ℕ)
 
-abbrev pub IsOfKind : Kind → Fields → Type 0
+abbrev pub IsOfKind : Kind → LineFields → Type 0
 IsOfKind kind fields = field_at fields 0 ≡ kind_word kind
 
 -- one of these lines is so
-abbrev pub SomeLine : (Fields → Type 0) → List Fields → Type 0
+abbrev pub SomeLine : (LineFields → Type 0) → List LineFields → Type 0
 SomeLine P [] = ⊥
 SomeLine P (fields ∷ more) = P fields ⊎ SomeLine P more
 
 -- a line of a kind that comes after this place
-abbrev pub IsPast : ℕ → Fields → Type 0
+abbrev pub IsPast : ℕ → LineFields → Type 0
 IsPast place fields = (kind : Kind) × IsOfKind kind fields × (place < kind_place kind)
 
 -- a line of `hash` with a hash of n bytes
-abbrev pub HasHashLength : ℕ → Fields → Type 0
+abbrev pub HasHashLength : ℕ → LineFields → Type 0
 HasHashLength n fields = IsOfKind hash_line fields × (hash : List ℕ) × IsOctets (field_at fields 8) hash × (length hash ≡ n)
 
 -- a line of `hash` with a hash of another number of bytes
-abbrev pub HasOtherLength : ℕ → Fields → Type 0
+abbrev pub HasOtherLength : ℕ → LineFields → Type 0
 HasOtherLength n fields = (m : ℕ) × HasHashLength m fields × (¬ (m ≡ n))
 
 -- the line right above, of these lines above of which the nearest comes first, may be followed so
-abbrev pub MayStand : Kind → List Fields → Type 0
+abbrev pub MayStand : Kind → List LineFields → Type 0
 MayStand kind [] = may_begin kind ≡ true
 MayStand kind (fields ∷ above) = (other : Kind) × IsOfKind other fields × (may_follow kind other ≡ true)
 
@@ -59,7 +59,7 @@ rule_number X7 = 7
 rule_number X8 = 8
 
 -- The line breaks the rule, under these lines, of which the nearest comes first.
-abbrev pub Breaks : List Fields → Fields → Rule → Type 0
+abbrev pub Breaks : List LineFields → LineFields → Rule → Type 0
 -- the word is of no kind
 Breaks above fields X1 = (kind : Kind) → ¬ IsOfKind kind fields
 -- the first line is no `object` line, or a later one is
@@ -80,12 +80,12 @@ Breaks above fields X8 =
     × ((n < shortest_hash) ⊎ ((longest_hash < n) ⊎ SomeLine (HasOtherLength n) above))
 
 -- the line breaks this rule and none before it
-pub record BreaksFirst (above : List Fields) (fields : Fields) (rule : Rule) : Type 0 where
+pub record BreaksFirst (above : List LineFields) (fields : LineFields) (rule : Rule) : Type 0 where
   pub broken : Breaks above fields rule
   pub least : (other : Rule) → rule_number other < rule_number rule → ¬ Breaks above fields other
 
 -- the line breaks no rule
-abbrev pub IsGoodLine : List Fields → Fields → Type 0
+abbrev pub IsGoodLine : List LineFields → LineFields → Type 0
 IsGoodLine above fields = (rule : Rule) → ¬ Breaks above fields rule
 
 -- the number of the next line; the last number that fits stands for all lines further on
@@ -97,24 +97,24 @@ abbrev pub SaysNothing : List ℕ → Type 0
 SaysNothing raw = is_skipped (trimmed_line raw) ≡ true
 
 -- the line says what these fields hold
-pub record Says (raw : List ℕ) (fields : Fields) : Type 0 where
+pub record Says (raw : List ℕ) (fields : LineFields) : Type 0 where
   pub something : is_skipped (trimmed_line raw) ≡ false
   pub split : HasFields (trimmed_line raw) fields
 
 -- The lines say these, and each line breaks no rule under those above it. There is one line at least.
-abbrev pub AreGoodLines : List Fields → List (List ℕ) → List Fields → Type 0
+abbrev pub AreGoodLines : List LineFields → List (List ℕ) → List LineFields → Type 0
 AreGoodLines above [] said = (¬ (above ≡ [])) × (said ≡ [])
 AreGoodLines above (raw ∷ more) said =
     (SaysNothing raw × AreGoodLines above more said)
-    ⊎ ((fields : Fields) × Says raw fields × IsGoodLine above fields × (rest : List Fields) × (said ≡ fields ∷ rest) × AreGoodLines (fields ∷ above) more rest)
+    ⊎ ((fields : LineFields) × Says raw fields × IsGoodLine above fields × (rest : List LineFields) × (said ≡ fields ∷ rest) × AreGoodLines (fields ∷ above) more rest)
 
 -- The first of the lines, the first of which has number n, that breaks a rule under those above it;
 -- where no line says anything, line 1 lacks the `object` line.
-abbrev pub IsFirstBadLine : List Fields → ℕ → List (List ℕ) → TextBad → Type 0
+abbrev pub IsFirstBadLine : List LineFields → ℕ → List (List ℕ) → TextBad → Type 0
 IsFirstBadLine above n [] bad = (above ≡ []) × (bad ≡ record { line = 1; rule = rule_number X2 })
 IsFirstBadLine above n (raw ∷ more) bad =
     (SaysNothing raw × IsFirstBadLine above (next_number n) more bad)
-    ⊎ ((fields : Fields) × Says raw fields
+    ⊎ ((fields : LineFields) × Says raw fields
     × (((rule : Rule) × BreaksFirst above fields rule × (bad ≡ record { line = n; rule = rule_number rule }))
     ⊎ (IsGoodLine above fields × IsFirstBadLine (fields ∷ above) (next_number n) more bad)))
 
