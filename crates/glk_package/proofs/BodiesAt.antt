@@ -39,7 +39,7 @@ body_is_at file p e member =
     }
 
 -- a mark is whole in its body
-mark_inside : (body : List ℕ) (i : ℕ) → IsMarkAt body i → i + length mark ≤ length body
+pub mark_inside : (body : List ℕ) (i : ℕ) → IsMarkAt body i → i + length mark ≤ length body
 mark_inside body i here =
     let split : drop i body ≡ mark ++ drop (length mark) (drop i body) = (starts_is Decides-eqb (drop i body) mark _ refl).0 here in
     let long : length (drop i body) ≡ length mark + length (drop (length mark) (drop i body)) = ap length split ∙ length-append mark (drop (length mark) (drop i body)) in

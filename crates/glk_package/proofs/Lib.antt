@@ -4,3 +4,6 @@ pub mod WalkSteps
 pub mod Once
 pub mod Room
 pub mod NoMismatch
+pub mod Decided
+pub mod ObjectDecided
+pub mod Some

@@ -56,6 +56,10 @@ abbrev pub IsOnePackage : Type 0
 IsOnePackage = (headers : HeaderRule) (file : List ℕ) (one other : Result (List ObjectEntry) PackageBad)
     → PackageFile headers file one → PackageFile headers file other → one ≡ other
 
+-- By each rule for lines a file is a package, or has a first fault.
+abbrev pub IsSomePackage : Type 0
+IsSomePackage = (headers : HeaderRule) (file : List ℕ) → (answer : Result (List ObjectEntry) PackageBad) × PackageFile headers file answer
+
 -- A call was refused for such a fault, or ran out of memory.
 abbrev pub OrOutOfMemory : (PackageBad → Type 0) → Fault PackageBad → Type 0
 OrOutOfMemory P (fault.Bad bad) = P bad

@@ -15,7 +15,7 @@ mod refusal;
 mod tests;
 
 pub use header_rule::HeaderRule;
-pub use laws::{no_mismatch, one_package};
+pub use laws::{no_mismatch, one_package, some_package};
 pub use object_entry::ObjectEntry;
 pub use package_file::{BARE_START, objects};
 pub use refusal::PackageBad;
