@@ -12,3 +12,5 @@ pub mod FormatLemmas
 pub mod ImportRefLemmas
 pub mod ImportLemmas
 pub mod WaveSteps
+pub mod SomeLoad
+pub mod SomeConfig

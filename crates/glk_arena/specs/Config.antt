@@ -2,7 +2,7 @@
 use Rattle.std.specs.Prelude.{◌≡◌, ◌<◌, ◌==◌, ◌⊎◌, ℕ, Bool, List, length, drop, codes, nat_eq, true, Option, None, Some}
 use Rattle.std.specs.List.{starts_with, before_first, after_first}
 use Rattle.std.specs.Str.{is_utf8}
-use Rattle.glk_base.specs.Lines.{is_skipped, line_at}
+use Rattle.glk_base.specs.Lines.{lines, is_skipped, line_at, AllGood, IsFirstBad}
 
 abbrev pub packagefile : List ℕ
 packagefile = codes "packagefile "
@@ -49,3 +49,14 @@ IsLastFile ls n path (Some file) = IsLast ls n path file
 -- lines give a path one file, or none
 abbrev pub IsOneFile : Type 0
 IsOneFile = (ls : List (List ℕ)) (n : ℕ) (path : List ℕ) (one other : Option (List ℕ)) → IsLastFile ls n path one → IsLastFile ls n path other → one ≡ other
+
+-- Each line is good, and each path has the file of the last line that lists it, or none.
+pub record ConfigLines (ls : List (List ℕ)) (listed : List ℕ → Option (List ℕ)) : Type 0 where
+  pub good : AllGood ls (IsGoodLine ls)
+  pub files : (path : List ℕ) → IsLastFile ls (length ls) path (listed path)
+
+-- Each text is a configuration that lists some files, or has a first bad line.
+abbrev pub IsSomeConfig : Type 0
+IsSomeConfig = (text : List ℕ)
+    → ((listed : List ℕ → Option (List ℕ)) × ConfigLines (lines text) listed)
+      ⊎ ((number : ℕ) × IsFirstBad (lines text) (IsGoodLine (lines text)) number)

@@ -128,6 +128,10 @@ IsOneLoad =
     (inputs : LoadInputs) (files : Contents) (one other : Result (List Package) Cause)
     → IsLoad inputs files one → IsLoad inputs files other → one ≡ other
 
+-- Known files load to a list of packages, or have a first refusal: no wave is without end, since packages are few.
+abbrev pub IsSomeLoad : Type 0
+IsSomeLoad = (inputs : LoadInputs) (files : Contents) → (answer : Result (List Package) Cause) × IsLoad inputs files answer
+
 -- a file that loading may read: the main file, or one that the configuration lists
 abbrev pub IsPackagePath : List ℕ → (List ℕ → Option (List ℕ)) → List ℕ → Type 0
 IsPackagePath main listed path = (path ≡ main) ⊎ ((name : List ℕ) × (listed name ≡ Some path))

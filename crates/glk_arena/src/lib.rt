@@ -19,7 +19,7 @@ mod waves;
 
 pub use builtins::{Builtin, Builtins};
 pub use config::Config;
-pub use laws::{one_file, one_load};
+pub use laws::{one_file, one_load, some_config, some_load};
 pub use loaded::Loaded;
 pub use packages::PackageTable;
 pub use refusal::package_refusal;
