@@ -2,6 +2,10 @@
 use Rattle.std.proofs.Common.{◌≡◌, ◌∙◌, ◌+◌, ◌-◌, ◌<◌, ◌^◌, min, ℕ, Bool, true, false, List, [], ◌∷◌, refl, ap, sym, subst, arith, inl, inr, eqb, cond, Result, Ok, Err}
 use Rattle.std.specs.Prelude.{◌⊎◌, ◌↔◌}
 use Rattle.std.specs.List.{AllZip}
+use Rattle.std.specs.Result.{IfErr, IfOk}
+use Rattle.glk_base.specs.declared.fault.Fault.{Fault}
+use Rattle.glk_base.specs.declared.fault.Fault.TheVariants.{Bad, OutOfMemory}
+use Rattle.glk_objtext.specs.Answers.{Gives}
 use Rattle.std.proofs.lemmas.Bool.{cases_Bool, cases_order, eqb-true, eqb-false, false≢true, true≢false}
 use Rattle.glk_base.specs.Lines.{lines, trimmed_line, is_skipped}
 use Rattle.glk_objdesc.specs.declared.desc.ObjDesc.{ObjDesc}
@@ -15,7 +19,7 @@ use Rattle.glk_objtext.specs.Kinds.Kind.{object_line}
 use Rattle.glk_objtext.specs.Rules.Rule.{X2}
 use Rattle.glk_objtext.specs.Spelled.{BeginsWithHeader, HoldsObject, Spells}
 use Rattle.glk_objtext.specs.Values.{word_of_line}
-use Rattle.glk_objtext.specs.Rules.{next_number, LineFields, Rule, rule_number, BreaksFirst, IsGoodLine, Says, SaysNothing, AreGoodLines, IsFirstBadLine, IsFirstBadOf}
+use Rattle.glk_objtext.specs.Rules.{next_number, IsRefusalOf, LineFields, Rule, rule_number, BreaksFirst, IsGoodLine, Says, SaysNothing, AreGoodLines, IsFirstBadLine, IsFirstBadOf}
 use Rattle.glk_objtext.specs.declared.line.DefBlock.TheVariants.{Symdef, Hashed64def, Hasheddef, Nonpkgdef}
 use Rattle.glk_objtext.specs.declared.line.Line.{Line}
 use Rattle.glk_objtext.specs.declared.line.Line.TheVariants.{Header, Import, Package, Source, Symbol, Content, Relocation, Auxiliary, Reference, Flags, Named}
@@ -269,3 +273,9 @@ spelled text d = (
       let held = object_held (lines text) h.0 read.0 h.1 read.2 in
       ap answer_of_lines read.1 ∙ ap (λ (x : ObjDesc). Ok x) (object_one h.0 (description_of_lines read.0) d held h.2),
 )
+
+-- what a call that answers the reading of a text says of the text
+pub formed : (text : List ℕ) (r : Result ObjDesc (Fault TextBad)) → Gives (read_text text) r → IfOk r (Spells text) × IfErr r (IsRefusalOf text)
+formed text (Ok d) h = ((spelled text d).0 h, tt)
+formed text (Err (Bad bad)) h = (tt, (first_bad text bad).0 h)
+formed text (Err OutOfMemory) h = (tt, tt)

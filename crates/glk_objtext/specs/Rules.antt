@@ -6,6 +6,8 @@ use Rattle.glk_objtext.specs.Fields.{field_at}
 use Rattle.glk_objtext.specs.Forms.{HasFields, IsOctets}
 use Rattle.glk_objtext.specs.Kinds.{Kind, kind_word, kind_place, kind_sorts, may_follow, may_begin, HasMalformed}
 use Rattle.glk_objtext.specs.Kinds.Kind.{object_line, hash_line}
+use Rattle.glk_base.specs.declared.fault.Fault.{Fault}
+use Rattle.glk_base.specs.declared.fault.Fault.TheVariants.{Bad, OutOfMemory}
 use Rattle.glk_objtext.specs.declared.read.TextBad.{TextBad}
 
 -- a line as its fields; the word is the field of number 0.
@@ -121,3 +123,8 @@ IsFirstBadLine above n (raw ∷ more) bad =
 -- the first bad line of a text, and the least rule that it breaks
 abbrev pub IsFirstBadOf : List ℕ → TextBad → Type 0
 IsFirstBadOf text bad = IsFirstBadLine [] 1 (lines text) bad
+
+-- why a text may be refused: for its first bad line, or because memory ran out
+abbrev pub IsRefusalOf : List ℕ → Fault TextBad → Type 0
+IsRefusalOf text (Bad bad) = IsFirstBadOf text bad
+IsRefusalOf text OutOfMemory = Unit {0}

@@ -1,8 +1,10 @@
 // Reading a text.
-ghost use Rattle.std.specs.Prelude.{◌≡◌, ℕ, List, [], OnOk, IfErr};
+ghost use Rattle.std.specs.Prelude.{◌≡◌, ℕ, List, [], OnOk, IfOk, IfErr};
 ghost use Rattle.glk_objtext.specs.Answers.{Gives};
 ghost use Rattle.glk_objtext.specs.Grammar.{line_at};
 ghost use Rattle.glk_objtext.specs.Reading.{read_lines, read_text};
+ghost use Rattle.glk_objtext.specs.Rules.{IsRefusalOf};
+ghost use Rattle.glk_objtext.specs.Spelled.{Spells};
 ghost use Rattle.glk_objtext.specs.Building.{answer_with, ReadsOn, IsRefusedLine};
 
 use crate::builder::Builder;
@@ -98,6 +100,15 @@ impl Reader {
 /// # Errors
 /// `Bad` for the first bad line, with the least rule that it breaks; `OutOfMemory`.
 pub fn parse(alloc: Global, text: &[u8]) -> Result<ObjDesc, Fault<TextBad>>
+    ensures described { IfOk result (Spells text.now) }
+    ensures refused { IfErr result (IsRefusalOf text.now) }
+    ensures reads { Gives (read_text text.now) result }
+{
+    read_lines_of(alloc, text)
+}
+
+// The same without the words of the text form.
+fn read_lines_of(alloc: Global, text: &[u8]) -> Result<ObjDesc, Fault<TextBad>>
     ensures { Gives (read_text text.now) result }
 {
     let mut reader = Reader {

@@ -1,8 +1,8 @@
-use Rattle.glk_objtext.proofs.ReadSteps.{at_first}
+use Rattle.glk_objtext.proofs.TextForms.{formed}
 use Rattle.glk_objtext.proofs.read.parse.Goals as goal
 
-pub loop-rest-init : goal.loop-rest-init
-loop-rest-init c = rw c.start.ensures (at_first c.new.result c.args.text.now c.new.ensures)
+pub returns-clause-described : goal.returns-clause-described
+returns-clause-described c = (formed c.args.text.now c.read_lines_of.result c.read_lines_of.ensures).0
 
-pub returns : goal.returns
-returns c = let inv = rw c.in_default.is at c.loop-rest.invariant in rw (← inv) (c.finish.ensures c.loop-rest.line)
+pub returns-clause-refused : goal.returns-clause-refused
+returns-clause-refused c = (formed c.args.text.now c.read_lines_of.result c.read_lines_of.ensures).1
