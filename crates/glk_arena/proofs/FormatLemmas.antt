@@ -7,8 +7,11 @@ use Rattle.std.proofs.lemmas.List.Concat.{flat_map-cons}
 use Rattle.glk_cause.specs.declared.cause.Cause.{Cause}
 use Rattle.glk_base.specs.declared.fault.Fault.{Fault}
 use Rattle.glk_base.specs.declared.fault.Fault.TheVariants as fault
-use Rattle.glk_package.specs.HeaderRule.{HeaderRule, uniform, rule_after}
+use Rattle.glk_package.specs.ObjectRules.{ObjectRules, uniform_rules, rules_after}
 use Rattle.glk_package.specs.ObjectEntry.{ObjectEntry}
+use Rattle.glk_package.proofs.RuleAfter.{first_both, after_both}
+use Rattle.glk_package.specs.WidthRule.{first_width}
+use Rattle.std.specs.Option.{option_or}
 use Rattle.glk_arena.specs.PackageRefusal.{refusal_of, IsRefusedFor}
 use Rattle.glk_arena.specs.World.{Package, object_entries, paths_of}
 use Rattle.glk_arena.specs.Waves.{LoadInputs, Formats, all_whole, broken, whole, broken_later, file_of}
@@ -19,26 +22,29 @@ abbrev pub after_packages : List Package → Result (List Package) Cause → Res
 after_packages some (Ok later) = Ok (some ++ later)
 after_packages some (Err refusal) = Err refusal
 
-pub line_after : (before here : List ObjectEntry) → rule_after (rule_after uniform before) here ≡ rule_after uniform (before ++ here)
-line_after [] here = refl
-line_after (o ∷ before) here = refl
+pub rules_both : (before here : List ObjectEntry) → rules_after (rules_after uniform_rules before) here ≡ rules_after uniform_rules (before ++ here)
+rules_both before here = after_both uniform_rules before here
 
 pub packed_push : (world : List Package) (p : Package) → object_entries (world ++ p ∷ []) ≡ object_entries world ++ p.objects
 packed_push world p = flat_map-append (λ q. q.objects) world (p ∷ []) ∙ ap (λ os. object_entries world ++ os) (flat_map-cons (λ q. q.objects) p [] ∙ append-nil p.objects)
 
+-- the length of the long hashes of one package more
+pub width_push : (world : List Package) (p : Package) → first_width (object_entries (world ++ p ∷ [])) ≡ option_or (first_width (object_entries world)) (first_width p.objects)
+width_push world p = ap first_width (packed_push world p) ∙ first_both (object_entries world) p.objects
+
 -- what the rest of a wave is found to be, all of it is, after these packages
-pub record FormatsOn (inputs : LoadInputs) (wanted : HeaderRule) (paths files : List (List ℕ)) (earlier now : List Package) (names rest : List (List ℕ)) : Type 0 where
+pub record FormatsOn (inputs : LoadInputs) (wanted : ObjectRules) (paths files : List (List ℕ)) (earlier now : List Package) (names rest : List (List ℕ)) : Type 0 where
   pub wave : List Package
   pub now_is : now ≡ earlier ++ wave
-  pub on : (answer : Result (List Package) Cause) → Formats inputs (rule_after uniform (object_entries now)) (drop (length now) names) rest answer
+  pub on : (answer : Result (List Package) Cause) → Formats inputs (rules_after uniform_rules (object_entries now)) (drop (length now) names) rest answer
       → Formats inputs wanted paths files (after_packages wave answer)
 
 pub formats_start : (inputs : LoadInputs) (files names : List (List ℕ)) (earlier : List Package)
-    → FormatsOn inputs (rule_after uniform (object_entries earlier)) (drop (length earlier) names) files earlier earlier names files
+    → FormatsOn inputs (rules_after uniform_rules (object_entries earlier)) (drop (length earlier) names) files earlier earlier names files
 formats_start inputs files names earlier = record { wave = []; now_is = sym (append-nil earlier); on = on }
   where
-    on : (answer : Result (List Package) Cause) → Formats inputs (rule_after uniform (object_entries earlier)) (drop (length earlier) names) files answer
-        → Formats inputs (rule_after uniform (object_entries earlier)) (drop (length earlier) names) files (after_packages [] answer)
+    on : (answer : Result (List Package) Cause) → Formats inputs (rules_after uniform_rules (object_entries earlier)) (drop (length earlier) names) files answer
+        → Formats inputs (rules_after uniform_rules (object_entries earlier)) (drop (length earlier) names) files (after_packages [] answer)
     on (Ok later) f = f
     on (Err refusal) f = f
 
@@ -46,16 +52,16 @@ step_answer : (some : List Package) (p : Package) (answer : Result (List Package
 step_answer some p (Ok later) = ap Ok (sym (append_assoc some (p ∷ []) later))
 step_answer some p (Err refusal) = refl
 
-format_step : (inputs : LoadInputs) (wanted : HeaderRule) (path : List ℕ) (later : List (List ℕ)) (file : List ℕ) (rest : List (List ℕ)) (p : Package) (answer : Result (List Package) Cause)
-    → IsPackageIn wanted path file p → Formats inputs (rule_after wanted p.objects) later rest answer → Formats inputs wanted (path ∷ later) (file ∷ rest) (after_packages (p ∷ []) answer)
+format_step : (inputs : LoadInputs) (wanted : ObjectRules) (path : List ℕ) (later : List (List ℕ)) (file : List ℕ) (rest : List (List ℕ)) (p : Package) (answer : Result (List Package) Cause)
+    → IsPackageIn wanted path file p → Formats inputs (rules_after wanted p.objects) later rest answer → Formats inputs wanted (path ∷ later) (file ∷ rest) (after_packages (p ∷ []) answer)
 format_step inputs wanted path later file rest p (Ok packages) is f =
     let F : List ℕ → List ℕ → Type 0 = λ q g. Formats inputs wanted (path ∷ later) (file ∷ rest) (Ok (record { path = q; file = g; objects = p.objects } ∷ packages)) in
     subst (λ (q : List ℕ). F q p.file) (sym is.path_is) (subst (λ (g : List ℕ). F path g) (sym is.file_is) (whole wanted path later file rest p.objects packages is.holds f))
 format_step inputs wanted path later file rest p (Err refusal) is f = broken_later wanted path later file rest p.objects refusal is.holds f
 
 -- one package more
-pub formats_more : (inputs : LoadInputs) (wanted : HeaderRule) (paths files : List (List ℕ)) (earlier now next : List Package) (names rest : List (List ℕ)) (file : List ℕ) (p : Package)
-    → length now < length names → IsPackageIn (rule_after uniform (object_entries now)) (get_or names (length now) []) file p → next ≡ now ++ p ∷ []
+pub formats_more : (inputs : LoadInputs) (wanted : ObjectRules) (paths files : List (List ℕ)) (earlier now next : List Package) (names rest : List (List ℕ)) (file : List ℕ) (p : Package)
+    → length now < length names → IsPackageIn (rules_after uniform_rules (object_entries now)) (get_or names (length now) []) file p → next ≡ now ++ p ∷ []
     → FormatsOn inputs wanted paths files earlier now names (file ∷ rest) → FormatsOn inputs wanted paths files earlier next names rest
 formats_more inputs wanted paths files earlier now next names rest file p l is more f = record {
   wave = f.wave ++ p ∷ [];
@@ -63,20 +69,20 @@ formats_more inputs wanted paths files earlier now next names rest file p l is m
   on = on;
 }
   where
-    lines : rule_after uniform (object_entries next) ≡ rule_after (rule_after uniform (object_entries now)) p.objects
-    lines = ap (λ w. rule_after uniform (object_entries w)) more ∙ ap (rule_after uniform) (packed_push now p) ∙ sym (line_after (object_entries now) p.objects)
+    lines : rules_after uniform_rules (object_entries next) ≡ rules_after (rules_after uniform_rules (object_entries now)) p.objects
+    lines = ap (λ w. rules_after uniform_rules (object_entries w)) more ∙ ap (rules_after uniform_rules) (packed_push now p) ∙ sym (rules_both (object_entries now) p.objects)
 
     refs : drop (length next) names ≡ drop (suc (length now)) names
     refs = ap (λ n. drop n names) (ap length more ∙ length_push now p ∙ add-one (length now))
 
-    on : (answer : Result (List Package) Cause) → Formats inputs (rule_after uniform (object_entries next)) (drop (length next) names) rest answer
+    on : (answer : Result (List Package) Cause) → Formats inputs (rules_after uniform_rules (object_entries next)) (drop (length next) names) rest answer
         → Formats inputs wanted paths files (after_packages (f.wave ++ p ∷ []) answer)
     on answer g =
-        let G : HeaderRule → List (List ℕ) → Type 0 = λ w ps. Formats inputs w ps rest answer in
-        let g' = subst (λ (w : HeaderRule). G w (drop (suc (length now)) names)) lines (subst (λ (ps : List (List ℕ)). G (rule_after uniform (object_entries next)) ps) refs g) in
-        let step : Formats inputs (rule_after uniform (object_entries now)) (get_or names (length now) [] ∷ drop (suc (length now)) names) (file ∷ rest) (after_packages (p ∷ []) answer) =
-        format_step inputs (rule_after uniform (object_entries now)) (get_or names (length now) []) (drop (suc (length now)) names) file rest p answer is g' in
-        let S : List (List ℕ) → Type 0 = λ ps. Formats inputs (rule_after uniform (object_entries now)) ps (file ∷ rest) (after_packages (p ∷ []) answer) in
+        let G : ObjectRules → List (List ℕ) → Type 0 = λ w ps. Formats inputs w ps rest answer in
+        let g' = subst (λ (w : ObjectRules). G w (drop (suc (length now)) names)) lines (subst (λ (ps : List (List ℕ)). G (rules_after uniform_rules (object_entries next)) ps) refs g) in
+        let step : Formats inputs (rules_after uniform_rules (object_entries now)) (get_or names (length now) [] ∷ drop (suc (length now)) names) (file ∷ rest) (after_packages (p ∷ []) answer) =
+        format_step inputs (rules_after uniform_rules (object_entries now)) (get_or names (length now) []) (drop (suc (length now)) names) file rest p answer is g' in
+        let S : List (List ℕ) → Type 0 = λ ps. Formats inputs (rules_after uniform_rules (object_entries now)) ps (file ∷ rest) (after_packages (p ∷ []) answer) in
         let T : Result (List Package) Cause → Type 0 = λ a. Formats inputs wanted paths files a in
         subst T (step_answer f.wave p answer) (f.on (after_packages (p ∷ []) answer) (subst S (sym (drop-cons names (length now) [] l)) step))
 
@@ -85,36 +91,36 @@ refused_more : (P Q : Cause → Type 0) (f : Fault Cause) → ((c : Cause) → P
 refused_more P Q (fault.Bad c) q h = q c h
 refused_more P Q fault.OutOfMemory q h = tt
 
-pub formats_fault : (inputs : LoadInputs) (wanted : HeaderRule) (paths files : List (List ℕ)) (earlier now : List Package) (names rest : List (List ℕ)) (file place : List ℕ) (answer : Fault Cause)
+pub formats_fault : (inputs : LoadInputs) (wanted : ObjectRules) (paths files : List (List ℕ)) (earlier now : List Package) (names rest : List (List ℕ)) (file place : List ℕ) (answer : Fault Cause)
     → length now < length names → place ≡ file_of inputs (get_or names (length now) [])
     → FormatsOn inputs wanted paths files earlier now names (file ∷ rest)
-    → IsRefusedFor (IsFormatRefusal (rule_after uniform (object_entries now)) file place) answer
+    → IsRefusedFor (IsFormatRefusal (rules_after uniform_rules (object_entries now)) file place) answer
     → IsRefusedFor (λ refusal. Formats inputs wanted paths files (Err refusal)) answer
 formats_fault inputs wanted paths files earlier now names rest file place answer l lies f is =
-    refused_more (IsFormatRefusal (rule_after uniform (object_entries now)) file place) (λ refusal. Formats inputs wanted paths files (Err refusal)) answer turn is
+    refused_more (IsFormatRefusal (rules_after uniform_rules (object_entries now)) file place) (λ refusal. Formats inputs wanted paths files (Err refusal)) answer turn is
   where
-    turn : (c : Cause) → IsFormatRefusal (rule_after uniform (object_entries now)) file place c → Formats inputs wanted paths files (Err c)
+    turn : (c : Cause) → IsFormatRefusal (rules_after uniform_rules (object_entries now)) file place c → Formats inputs wanted paths files (Err c)
     turn c h =
-        let S : List (List ℕ) → Type 0 = λ ps. Formats inputs (rule_after uniform (object_entries now)) ps (file ∷ rest) (Err c) in
-        let here : Formats inputs (rule_after uniform (object_entries now)) (get_or names (length now) [] ∷ drop (suc (length now)) names) (file ∷ rest) (Err c) =
-        let F : Cause → Type 0 = λ d. Formats inputs (rule_after uniform (object_entries now)) (get_or names (length now) [] ∷ drop (suc (length now)) names) (file ∷ rest) (Err d) in
+        let S : List (List ℕ) → Type 0 = λ ps. Formats inputs (rules_after uniform_rules (object_entries now)) ps (file ∷ rest) (Err c) in
+        let here : Formats inputs (rules_after uniform_rules (object_entries now)) (get_or names (length now) [] ∷ drop (suc (length now)) names) (file ∷ rest) (Err c) =
+        let F : Cause → Type 0 = λ d. Formats inputs (rules_after uniform_rules (object_entries now)) (get_or names (length now) [] ∷ drop (suc (length now)) names) (file ∷ rest) (Err d) in
         subst F (sym (h.2 ∙ ap (λ q. refusal_of q h.0) lies))
-        (broken (rule_after uniform (object_entries now)) (get_or names (length now) []) (drop (suc (length now)) names) file rest h.0 h.1)
+        (broken (rules_after uniform_rules (object_entries now)) (get_or names (length now) []) (drop (suc (length now)) names) file rest h.0 h.1)
         in
         f.on (Err c) (subst S (sym (drop-cons names (length now) [] l)) here)
 
 -- all packages
-pub formats_end : (inputs : LoadInputs) (wanted : HeaderRule) (paths files : List (List ℕ)) (earlier now : List Package) (names : List (List ℕ)) → length names ≤ length now
+pub formats_end : (inputs : LoadInputs) (wanted : ObjectRules) (paths files : List (List ℕ)) (earlier now : List Package) (names : List (List ℕ)) → length names ≤ length now
     → (f : FormatsOn inputs wanted paths files earlier now names []) → Formats inputs wanted paths files (Ok f.wave)
 formats_end inputs wanted paths files earlier now names g f =
     let T : List Package → Type 0 = λ ps. Formats inputs wanted paths files (Ok ps) in
-    let S : List (List ℕ) → Type 0 = λ ps. Formats inputs (rule_after uniform (object_entries now)) ps [] (Ok []) in
-    subst T (append-nil f.wave) (f.on (Ok []) (subst S (sym (drop_of_length-le names g)) (all_whole (rule_after uniform (object_entries now)))))
+    let S : List (List ℕ) → Type 0 = λ ps. Formats inputs (rules_after uniform_rules (object_entries now)) ps [] (Ok []) in
+    subst T (append-nil f.wave) (f.on (Ok []) (subst S (sym (drop_of_length-le names g)) (all_whole (rules_after uniform_rules (object_entries now)))))
 
 -- the packages of a wave have its paths, and its files
-pub formats_paths : (inputs : LoadInputs) (wanted : HeaderRule) (paths files : List (List ℕ)) (wave : List Package) → Formats inputs wanted paths files (Ok wave) → paths_of wave ≡ paths
+pub formats_paths : (inputs : LoadInputs) (wanted : ObjectRules) (paths files : List (List ℕ)) (wave : List Package) → Formats inputs wanted paths files (Ok wave) → paths_of wave ≡ paths
 formats_paths inputs wanted paths files wave (all_whole w) = refl
-formats_paths inputs wanted paths files wave (whole w p ps f fs objects later is rest) = ap (λ qs. p ∷ qs) (formats_paths inputs (rule_after wanted objects) ps fs later rest)
+formats_paths inputs wanted paths files wave (whole w p ps f fs objects later is rest) = ap (λ qs. p ∷ qs) (formats_paths inputs (rules_after wanted objects) ps fs later rest)
 
 -- a queue that gives nothing is empty
 pub no_rest : (all rest : List (List ℕ)) → all ≡ rest → rest ≡ drop 1 all → all ≡ []

@@ -8,7 +8,7 @@ use Rattle.glk_cause.specs.declared.cause.Limit.TheVariants as limit
 use Rattle.glk_cause.specs.Chain.{IsOne}
 use Rattle.glk_cause.specs.Reading.{bytes_or}
 use Rattle.glk_cause.proofs.ChainLaws.{then_one, gives_one, finds_one, function_one, along_one}
-use Rattle.glk_package.specs.HeaderRule.{HeaderRule, uniform, rule_after}
+use Rattle.glk_package.specs.ObjectRules.{ObjectRules, uniform_rules, rules_after}
 use Rattle.glk_package.specs.ObjectEntry.{ObjectEntry}
 use Rattle.glk_package.proofs.Once.{one_package}
 use Rattle.glk_arena.specs.PackageRefusal.{refusal_of}
@@ -29,7 +29,7 @@ reads_once inputs files left = along_one one left where
 ok_once : {A E : Type 0} (one other : A) → (let a : Result A E = Ok one in let b : Result A E = Ok other in a ≡ b) → one ≡ other
 ok_once one other e = cc
 
-formats_once : (inputs : LoadInputs) (wanted : HeaderRule) (paths files : List (List ℕ)) (a b : Result (List Package) Cause) → Formats inputs wanted paths files a → Formats inputs wanted paths files b → a ≡ b
+formats_once : (inputs : LoadInputs) (wanted : ObjectRules) (paths files : List (List ℕ)) (a b : Result (List Package) Cause) → Formats inputs wanted paths files a → Formats inputs wanted paths files b → a ≡ b
 formats_once inputs wanted paths files a b (all_whole w) (all_whole v) = refl
 formats_once inputs wanted paths files a b (broken w p ps f fs bad r) (broken v q qs g gs other s) =
     let one = one_package wanted f (Err bad) (Err other) r s in ap (λ c. Err (refusal_of (file_of inputs p) c)) (err_once bad other one)
@@ -39,33 +39,33 @@ formats_once inputs wanted paths files a b (whole w p ps f fs objects later r m)
 formats_once inputs wanted paths files a b (whole w p ps f fs objects later r m) (whole v q qs g gs others later' s t) =
     let one = one_package wanted f (Ok objects) (Ok others) r s in
     let same : objects ≡ others = ok_once objects others one in
-    let F : List ObjectEntry → Type 0 = λ os. Formats inputs (rule_after wanted os) ps fs (Ok later) in
-    let rest = formats_once inputs (rule_after wanted others) ps fs (Ok later) (Ok later') (subst F same m) t in
+    let F : List ObjectEntry → Type 0 = λ os. Formats inputs (rules_after wanted os) ps fs (Ok later) in
+    let rest = formats_once inputs (rules_after wanted others) ps fs (Ok later) (Ok later') (subst F same m) t in
     let tail : later ≡ later' = ok_once later later' rest in
     cc
 formats_once inputs wanted paths files a b (whole w p ps f fs objects later r m) (broken_later v q qs g gs others c s t) =
     let one = one_package wanted f (Ok objects) (Ok others) r s in
     let same : objects ≡ others = ok_once objects others one in
-    let F : List ObjectEntry → Type 0 = λ os. Formats inputs (rule_after wanted os) ps fs (Ok later) in
-    let rest = formats_once inputs (rule_after wanted others) ps fs (Ok later) (Err c) (subst F same m) t in
+    let F : List ObjectEntry → Type 0 = λ os. Formats inputs (rules_after wanted os) ps fs (Ok later) in
+    let rest = formats_once inputs (rules_after wanted others) ps fs (Ok later) (Err c) (subst F same m) t in
     absurd (cc)
 formats_once inputs wanted paths files a b (broken_later w p ps f fs objects c r m) (broken v q qs g gs other s) = absurd (let one = one_package wanted f (Ok objects) (Err other) r s in cc)
 formats_once inputs wanted paths files a b (broken_later w p ps f fs objects c r m) (whole v q qs g gs others later s t) =
     let one = one_package wanted f (Ok objects) (Ok others) r s in
     let same : objects ≡ others = ok_once objects others one in
-    let F : List ObjectEntry → Type 0 = λ os. Formats inputs (rule_after wanted os) ps fs (Err c) in
-    let rest = formats_once inputs (rule_after wanted others) ps fs (Err c) (Ok later) (subst F same m) t in
+    let F : List ObjectEntry → Type 0 = λ os. Formats inputs (rules_after wanted os) ps fs (Err c) in
+    let rest = formats_once inputs (rules_after wanted others) ps fs (Err c) (Ok later) (subst F same m) t in
     absurd (cc)
 formats_once inputs wanted paths files a b (broken_later w p ps f fs objects c r m) (broken_later v q qs g gs others d s t) =
     let one = one_package wanted f (Ok objects) (Ok others) r s in
     let same : objects ≡ others = ok_once objects others one in
-    let F : List ObjectEntry → Type 0 = λ os. Formats inputs (rule_after wanted os) ps fs (Err c) in
-    formats_once inputs (rule_after wanted others) ps fs (Err c) (Err d) (subst F same m) t
+    let F : List ObjectEntry → Type 0 = λ os. Formats inputs (rules_after wanted os) ps fs (Err c) in
+    formats_once inputs (rules_after wanted others) ps fs (Err c) (Err d) (subst F same m) t
 
 wave_once : (inputs : LoadInputs) (files : Contents) (earlier : List Package) (paths : List (List ℕ)) (a b : Result (List Package) Cause) → Wave inputs files earlier paths a → Wave inputs files earlier paths b → a ≡ b
 wave_once inputs files earlier paths =
     then_one paths (reads_once inputs files (file_limit - file_bytes earlier) paths)
-    (λ read h. then_one read (formats_once inputs (rule_after uniform (object_entries earlier)) paths read)
+    (λ read h. then_one read (formats_once inputs (rules_after uniform_rules (object_entries earlier)) paths read)
     (λ wave k. then_one wave (finds_one wave (some_once (fingerprint_refusal earlier wave)))
     (λ same m. finds_one same (some_once (missing_refusal inputs.listed earlier same)))))
 

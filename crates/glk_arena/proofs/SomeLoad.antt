@@ -12,7 +12,7 @@ use Rattle.glk_cause.specs.Chain.{Along, ends, takes, IsSomeAt}
 use Rattle.glk_cause.specs.Reading.{bytes_or}
 use Rattle.glk_cause.proofs.ChainLaws.{then_some, gives_some, finds_some, function_some, along_some, then_given, finds_given}
 use Rattle.glk_package.specs.declared.refusal.PackageBad.{PackageBad}
-use Rattle.glk_package.specs.HeaderRule.{HeaderRule, uniform, rule_after}
+use Rattle.glk_package.specs.ObjectRules.{ObjectRules, uniform_rules, rules_after}
 use Rattle.glk_package.specs.ObjectEntry.{ObjectEntry}
 use Rattle.glk_package.specs.Package.{PackageFile}
 use Rattle.glk_package.proofs.Some.{some_package}
@@ -34,21 +34,21 @@ reads_long : {St A B : Type 0} {S : St → A → Result (St × B) Cause → Type
 reads_long s xs ys (ends s0) = refl
 reads_long s xs ys (takes s0 t a b later rest h u) = ap suc (reads_long t later rest u)
 
-formats_some : (inputs : LoadInputs) (wanted : HeaderRule) (paths files : List (List ℕ)) → length files ≡ length paths → (answer : Result (List Package) Cause) × Formats inputs wanted paths files answer
+formats_some : (inputs : LoadInputs) (wanted : ObjectRules) (paths files : List (List ℕ)) → length files ≡ length paths → (answer : Result (List Package) Cause) × Formats inputs wanted paths files answer
 formats_some inputs wanted [] [] same = (Ok [], all_whole wanted)
 formats_some inputs wanted [] (f ∷ fs) same = absurd (omega (arith, same))
 formats_some inputs wanted (p ∷ ps) [] same = absurd (omega (arith, same))
 formats_some inputs wanted (p ∷ ps) (f ∷ fs) same = by_file (λ w. formats_some inputs w ps fs (omega (arith, same))) (some_package wanted f)
   where
-    by_rest : (objects : List ObjectEntry) → PackageFile wanted f (Ok objects) → (answer : Result (List Package) Cause) × Formats inputs (rule_after wanted objects) ps fs answer
+    by_rest : (objects : List ObjectEntry) → PackageFile wanted f (Ok objects) → (answer : Result (List Package) Cause) × Formats inputs (rules_after wanted objects) ps fs answer
         → (answer : Result (List Package) Cause) × Formats inputs wanted (p ∷ ps) (f ∷ fs) answer
     by_rest objects is (Err refusal, later) = (Err refusal, broken_later wanted p ps f fs objects refusal is later)
     by_rest objects is (Ok packages, later) = (Ok (record { path = p; file = f; objects = objects } ∷ packages), whole wanted p ps f fs objects packages is later)
 
-    by_file : ((w : HeaderRule) → (answer : Result (List Package) Cause) × Formats inputs w ps fs answer) → (answer : Result (List ObjectEntry) PackageBad) × PackageFile wanted f answer
+    by_file : ((w : ObjectRules) → (answer : Result (List Package) Cause) × Formats inputs w ps fs answer) → (answer : Result (List ObjectEntry) PackageBad) × PackageFile wanted f answer
         → (answer : Result (List Package) Cause) × Formats inputs wanted (p ∷ ps) (f ∷ fs) answer
     by_file later (Err fault, is) = (Err (refusal_of (file_of inputs p) fault), broken wanted p ps f fs fault is)
-    by_file later (Ok objects, is) = by_rest objects is (later (rule_after wanted objects))
+    by_file later (Ok objects, is) = by_rest objects is (later (rules_after wanted objects))
 
 -- a refusal that is found, or none
 found_or_clear : (refusal : Option Cause) → ((c : Cause) × (refusal ≡ Some c)) ⊎ ((c : Cause) → refusal ≡ Some c → ⊥)
@@ -58,7 +58,7 @@ found_or_clear (Some c) = inl (c, refl)
 wave_some : (inputs : LoadInputs) (files : Contents) (earlier : List Package) (paths : List (List ℕ)) → IsSomeAt (Wave inputs files earlier) paths
 wave_some inputs files earlier paths =
     then_some paths (reads_some inputs files (file_limit - file_bytes earlier) paths)
-    (λ read h. then_some read (formats_some inputs (rule_after uniform (object_entries earlier)) paths read (reads_long (file_limit - file_bytes earlier) paths read h))
+    (λ read h. then_some read (formats_some inputs (rules_after uniform_rules (object_entries earlier)) paths read (reads_long (file_limit - file_bytes earlier) paths read h))
     (λ wave k. then_some wave (finds_some wave (found_or_clear (fingerprint_refusal earlier wave)))
     (λ same m. finds_some same (found_or_clear (missing_refusal inputs.listed earlier same)))))
 
@@ -69,7 +69,7 @@ wave_long inputs files earlier paths wave w =
     let made = then_given read.0 wave read.2 in
     let compared = then_given made.0 wave made.2 in
     let same : made.0 ≡ wave = finds_given made.0 compared.0 compared.1 ∙ finds_given compared.0 wave compared.2 in
-    let own : paths_of made.0 ≡ paths = formats_paths inputs (rule_after uniform (object_entries earlier)) paths read.0 made.0 made.1 in
+    let own : paths_of made.0 ≡ paths = formats_paths inputs (rules_after uniform_rules (object_entries earlier)) paths read.0 made.0 made.1 in
     ap length (sym same) ∙ sym (length-map made.0 (λ p. p.path)) ∙ ap length own
 
 -- `left` more packages may be loaded

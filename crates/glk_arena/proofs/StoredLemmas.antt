@@ -8,7 +8,9 @@ use Rattle.std.proofs.lemmas.List.{map-append, get_or-map, take_all}
 use Rattle.std.proofs.lemmas.List.Sums.{sum_by-cons, sum_by-take-le, sum_by_push}
 use Rattle.std.proofs.lemmas.List.Elements.{All-nil, All-cons, All-head, All-tail, All-append}
 use Rattle.glk_obj.specs.Object.{IsObject}
-use Rattle.glk_obj.specs.Records.{symbols, fingerprint}
+use Rattle.std.specs.Option.{option_or}
+use Rattle.glk_obj.specs.Records.{symbols, fingerprint, hash_width}
+use Rattle.glk_package.specs.WidthRule.{first_width}
 use Rattle.glk_obj.proofs.Laws.{symbols_within}
 use Rattle.glk_package.specs.ObjectEntry.{ObjectEntry, data_bytes}
 use Rattle.glk_arena.specs.declared.stored.StoredObject.{StoredObject}
@@ -117,3 +119,16 @@ print_end file objects i g = rw (drop_of_length-le objects g) refl
 pub package_print : (p : Package) → package_fingerprint p ≡ first_set p.objects
 unfolding package_fingerprint first_set
 package_print p = refl
+
+-- the long hashes of an object and the later ones
+pub width_step : (objects : List ObjectEntry) (i : ℕ) (object : List ℕ) → i < length objects → object ≡ get_or (map (λ o. o.goobj) objects) i []
+    → first_width (drop i objects) ≡ option_or (hash_width object) (first_width (drop (i + 1) objects))
+width_step objects i object l read =
+    let d : ObjectEntry = record { member = 0; name = None; line = []; goobj = []; at = 0 } in
+    let one : object ≡ (get_or objects i d).goobj = read ∙ get_or-map (λ o. o.goobj) objects i d [] l in
+    ap first_width (drop-cons objects i d l)
+    ∙ ap (λ o. option_or (hash_width o) (first_width (drop (suc i) objects))) (sym one)
+    ∙ ap (λ k. option_or (hash_width object) (first_width (drop k objects))) (sym (add-one i))
+
+pub width_end : (objects : List ObjectEntry) (i : ℕ) → length objects ≤ i → first_width (drop i objects) ≡ None
+width_end objects i g = rw (drop_of_length-le objects g) refl

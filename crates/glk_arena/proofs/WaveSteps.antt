@@ -24,7 +24,7 @@ use Rattle.glk_cause.specs.Reading.{Refuses}
 use Rattle.glk_cause.proofs.ReadingLaws.{always, always_known, reading_stopped}
 use Rattle.glk_obj.specs.Blocks.{count, autolib}
 use Rattle.glk_package.specs.ObjectEntry.{ObjectEntry}
-use Rattle.glk_package.specs.HeaderRule.{HeaderRule, uniform, rule_after}
+use Rattle.glk_package.specs.ObjectRules.{ObjectRules, uniform_rules, rules_after}
 use Rattle.glk_package.specs.declared.refusal.PackageBad.{PackageBad}
 use Rattle.glk_package.specs.declared.refusal.PackageBad.TheVariants as bad
 use Rattle.glk_arena.specs.PackageRefusal.{refusal_of, IsRefusedFor}
@@ -72,10 +72,10 @@ record IsOfFile (inputs : LoadInputs) (paths : List (List ℕ)) (c : Cause) : Ty
   bad : PackageBad
   is : c ≡ refusal_of (file_of inputs (get_or paths index [])) bad
 
-of_one_file : (inputs : LoadInputs) (wanted : HeaderRule) (paths files : List (List ℕ)) (c : Cause) → Formats inputs wanted paths files (Err c) → IsOfFile inputs paths c
+of_one_file : (inputs : LoadInputs) (wanted : ObjectRules) (paths files : List (List ℕ)) (c : Cause) → Formats inputs wanted paths files (Err c) → IsOfFile inputs paths c
 of_one_file inputs wanted paths files c (broken w p ps f fs fault is) = record { index = 0; inside = omega (arith); bad = fault; is = refl }
 of_one_file inputs wanted paths files c (broken_later w p ps f fs objects refusal is rest) =
-    let of = of_one_file inputs (rule_after wanted objects) ps fs c rest in
+    let of = of_one_file inputs (rules_after wanted objects) ps fs c rest in
     let inside = of.inside in
     record { index = suc of.index; inside = omega (arith, inside); bad = of.bad; is = of.is }
 
@@ -91,7 +91,7 @@ pub format_refused : (inputs : LoadInputs) (old new : FileState) (earlier : List
     → RefusesWave old new inputs earlier (drop (length earlier) names) f
 format_refused inputs old new earlier names files (fault.Bad c) same all r is =
     let paths : List (List ℕ) = drop (length earlier) names in
-    let of = of_one_file inputs (rule_after uniform (object_entries earlier)) paths files c is in
+    let of = of_one_file inputs (rules_after uniform_rules (object_entries earlier)) paths files c is in
     let sort : sort_of c ≡ of_package (file_of inputs (get_or paths of.index [])) = ap sort_of of.is ∙ sort_of_bad _ of.bad in
     let has : HasFile inputs (get_or paths of.index []) = All-drop (HasFile inputs) (length earlier) names all of.index [] of.inside in
     let S : Sort → Type 0 = λ s. IsOfPackages inputs s × Refuses old new (WaveTo inputs old.contents earlier paths (Err c)) s in
@@ -337,7 +337,7 @@ wave_read inputs contents names list now refs compared s r = record {
 }
   where
     wave_paths : paths_of r.adds.wave ≡ drop (length list) names
-    wave_paths = formats_paths inputs (rule_after uniform (object_entries list)) (drop (length list) names) r.files r.adds.wave r.adds.formats
+    wave_paths = formats_paths inputs (rules_after uniform_rules (object_entries list)) (drop (length list) names) r.files r.adds.wave r.adds.formats
 
     paths : paths_of now ≡ names
     paths =

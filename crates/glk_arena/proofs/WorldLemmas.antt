@@ -9,7 +9,7 @@ use Rattle.std.proofs.lemmas.List.Elements.{All-nil, All-head, All-tail, All-app
 use Rattle.glk_obj.specs.Object.{IsObject}
 use Rattle.glk_obj.specs.Records.{symbols}
 use Rattle.glk_package.specs.ObjectEntry.{ObjectEntry}
-use Rattle.glk_package.specs.HeaderRule.{uniform, exactly, rule_after}
+use Rattle.glk_package.specs.HeaderRule.{uniform, exactly, header_after}
 use Rattle.glk_base.specs.Groups.{group_of, group_start}
 use Rattle.glk_arena.specs.World.{Package, object_entries, objects_of, package_of_object, first_object, object_count, file_bytes, symbol_count, package_symbols}
 use Rattle.glk_arena.specs.Stored.{IsWhole}
@@ -133,15 +133,15 @@ abbrev pub no_object : ObjectEntry
 no_object = record { member = 0; name = None; line = []; goobj = []; at = 0 }
 
 -- without objects the line is open
-pub no_line_is : (world : List Package) → length (objects_of world) ≡ 0 → rule_after uniform (object_entries world) ≡ uniform
+pub no_line_is : (world : List Package) → length (objects_of world) ≡ 0 → header_after uniform (object_entries world) ≡ uniform
 unfolding objects_of
-no_line_is world e = ap (rule_after uniform) (nil_from_length (object_entries world) (sym (length-map (object_entries world) (λ o. o.goobj)) ∙ e))
+no_line_is world e = ap (header_after uniform) (nil_from_length (object_entries world) (sym (length-map (object_entries world) (λ o. o.goobj)) ∙ e))
 
 -- else it is that of the first object
 pub record IsFirstLine (world : List Package) (k : ℕ) : Type 0 where
   pub there : k < length world
   pub some : 0 < length (get_or world k no_package).objects
-  pub line_is : rule_after uniform (object_entries world) ≡ exactly (get_or (get_or world k no_package).objects 0 no_object).line
+  pub line_is : header_after uniform (object_entries world) ≡ exactly (get_or (get_or world k no_package).objects 0 no_object).line
 
 -- the package of object 0
 package_behind : (path file : List ℕ) (later : List Package) → package_of_object (record { path = path; file = file; objects = [] } ∷ later) 0 ≡ suc (package_of_object later 0)

@@ -10,7 +10,7 @@ use Rattle.glk_cause.specs.declared.cause.Cause.{Cause}
 use Rattle.glk_cause.specs.declared.cause.Cause.TheVariants as cause
 use Rattle.glk_cause.specs.Reading.{AnswersByReading}
 use Rattle.glk_package.specs.declared.refusal.PackageBad.{PackageBad}
-use Rattle.glk_package.specs.HeaderRule.{HeaderRule}
+use Rattle.glk_package.specs.ObjectRules.{ObjectRules}
 use Rattle.glk_package.specs.Package.{PackageFile}
 use Rattle.glk_arena.specs.declared.config.Config.{Config}
 use Rattle.glk_arena.specs.declared.stored.StoredObject.{StoredObject}
@@ -35,13 +35,13 @@ ReadsPaths old new inputs limit paths view result =
     AnswersByReading old new (IsOfPackages inputs) (λ files. Reads inputs files limit paths) view result
 
 -- a file of a package is objects, which make this package
-pub record IsPackageIn (wanted : HeaderRule) (path file : List ℕ) (p : Package) : Type 0 where
+pub record IsPackageIn (wanted : ObjectRules) (path file : List ℕ) (p : Package) : Type 0 where
   pub holds : PackageFile wanted file (Ok p.objects)
   pub path_is : p.path ≡ path
   pub file_is : p.file ≡ file
 
 -- a file at this path is refused so
-abbrev pub IsFormatRefusal : HeaderRule → List ℕ → List ℕ → Cause → Type 0
+abbrev pub IsFormatRefusal : ObjectRules → List ℕ → List ℕ → Cause → Type 0
 IsFormatRefusal wanted file path refusal = (broken : PackageBad) × PackageFile wanted file (Err broken) × (refusal ≡ refusal_of path broken)
 
 -- packages with those of a wave after them
@@ -90,9 +90,9 @@ missing_import world listed names from = find (is_missing listed names) (drop fr
 abbrev pub next_imports : List (List ℕ) → List Package → ℕ → List (List ℕ)
 next_imports names world from = first_uses names (drop from (map (λ i. i.imported) (imports_of world)))
 
--- what is stored of the objects of a file, whose lines are as this rule has it
-abbrev pub HoldsStored : HeaderRule → List ℕ → List StoredObject → Type 0
-HoldsStored rule file kept = PackageFile rule file (Ok (map (stored_entry file) kept))
+-- what is stored of the objects of a file, which have in common what these rules ask
+abbrev pub HoldsStored : ObjectRules → List ℕ → List StoredObject → Type 0
+HoldsStored rules file kept = PackageFile rules file (Ok (map (stored_entry file) kept))
 
 -- the packages of a wave, whose names are those after the earlier packages, are after these
 abbrev pub AppendsWave : LoadInputs → List Package → List (List ℕ) → List (List ℕ) → List Package → Type 0

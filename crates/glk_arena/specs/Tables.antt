@@ -1,8 +1,9 @@
 -- The tables over loaded packages.
-use Rattle.std.specs.Prelude.{◌≡◌, ◌<◌, ◌≤◌, ℕ, List, length, get_or, All}
+use Rattle.std.specs.Prelude.{◌≡◌, ◌<◌, ◌≤◌, ℕ, List, Option, length, get_or, All}
 use Rattle.std.specs.List.{sum_by}
 use Rattle.glk_base.specs.Groups.{group_of, group_start}
-use Rattle.glk_arena.specs.World.{Package, package_symbols, file_bytes, package_limit}
+use Rattle.glk_package.specs.WidthRule.{first_width}
+use Rattle.glk_arena.specs.World.{Package, object_entries, package_symbols, file_bytes, package_limit}
 use Rattle.glk_base.specs.Limits.{file_limit}
 use Rattle.glk_arena.specs.Stored.{IsWhole}
 
@@ -22,3 +23,8 @@ pub record AreTables (world : List Package) (owners firsts rows : List ℕ) (byt
   pub row : (p : ℕ) → p < length world → get_or rows p 0 ≡ group_start package_symbols world p
   pub all_bytes : bytes ≡ file_bytes world
   pub all_symbols : symbols ≡ sum_by package_symbols world
+
+-- the same with the length of the long hashes of the first object that has any
+pub record IsIndexed (world : List Package) (owners firsts rows : List ℕ) (bytes symbols : ℕ) (width : Option ℕ) : Type 0 where
+  pub tables : AreTables world owners firsts rows bytes symbols
+  pub width_is : width ≡ first_width (object_entries world)

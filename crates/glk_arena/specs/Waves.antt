@@ -12,7 +12,7 @@ use Rattle.glk_cause.specs.Reading.{IsWhole}
 use Rattle.glk_cause.specs.Sorts.{Sort, by_reads, of_file, of_package, of_link}
 use Rattle.glk_package.specs.ObjectEntry.{ObjectEntry}
 use Rattle.glk_package.specs.Package.{PackageFile}
-use Rattle.glk_package.specs.HeaderRule.{HeaderRule, uniform, rule_after}
+use Rattle.glk_package.specs.ObjectRules.{ObjectRules, uniform_rules, rules_after}
 use Rattle.glk_package.specs.declared.refusal.PackageBad.{PackageBad}
 use Rattle.glk_arena.specs.PackageRefusal.{refusal_of}
 use Rattle.glk_arena.specs.World.{Package, paths_of, object_entries, file_bytes, package_limit}
@@ -48,17 +48,17 @@ ReadsOne inputs files left path = Then (λ p. IsWhole (file_of inputs p) left fi
 abbrev pub Reads : LoadInputs → Contents → ℕ → List (List ℕ) → Result (List (List ℕ)) Cause → Type 0
 Reads inputs files = Along (ReadsOne inputs files)
 
--- Part 2: the files of these packages are objects, whose lines are as wanted. They make these packages, or this is the first refusal.
--- That the long hashes of all objects have one length is not looked at yet: no object with such hashes is linked.
-pub data Formats (inputs : LoadInputs) : HeaderRule → List (List ℕ) → List (List ℕ) → Result (List Package) Cause → Type 0 where
-  all_whole : (wanted : HeaderRule) → Formats inputs wanted [] [] (Ok [])
-  broken : (wanted : HeaderRule) (path : List ℕ) (paths : List (List ℕ)) (file : List ℕ) (files : List (List ℕ)) (fault : PackageBad) → PackageFile wanted file (Err fault)
+-- Part 2: the files of these packages are objects, which have in common what is wanted: their lines, and the length of their long
+-- hashes. They make these packages, or this is the first refusal.
+pub data Formats (inputs : LoadInputs) : ObjectRules → List (List ℕ) → List (List ℕ) → Result (List Package) Cause → Type 0 where
+  all_whole : (wanted : ObjectRules) → Formats inputs wanted [] [] (Ok [])
+  broken : (wanted : ObjectRules) (path : List ℕ) (paths : List (List ℕ)) (file : List ℕ) (files : List (List ℕ)) (fault : PackageBad) → PackageFile wanted file (Err fault)
       → Formats inputs wanted (path ∷ paths) (file ∷ files) (Err (refusal_of (file_of inputs path) fault))
-  whole : (wanted : HeaderRule) (path : List ℕ) (paths : List (List ℕ)) (file : List ℕ) (files : List (List ℕ)) (objects : List ObjectEntry) (later : List Package) → PackageFile wanted file (Ok objects)
-      → Formats inputs (rule_after wanted objects) paths files (Ok later)
+  whole : (wanted : ObjectRules) (path : List ℕ) (paths : List (List ℕ)) (file : List ℕ) (files : List (List ℕ)) (objects : List ObjectEntry) (later : List Package) → PackageFile wanted file (Ok objects)
+      → Formats inputs (rules_after wanted objects) paths files (Ok later)
       → Formats inputs wanted (path ∷ paths) (file ∷ files) (Ok (record { path = path; file = file; objects = objects } ∷ later))
-  broken_later : (wanted : HeaderRule) (path : List ℕ) (paths : List (List ℕ)) (file : List ℕ) (files : List (List ℕ)) (objects : List ObjectEntry) (refusal : Cause) → PackageFile wanted file (Ok objects)
-      → Formats inputs (rule_after wanted objects) paths files (Err refusal)
+  broken_later : (wanted : ObjectRules) (path : List ℕ) (paths : List (List ℕ)) (file : List ℕ) (files : List (List ℕ)) (objects : List ObjectEntry) (refusal : Cause) → PackageFile wanted file (Ok objects)
+      → Formats inputs (rules_after wanted objects) paths files (Err refusal)
       → Formats inputs wanted (path ∷ paths) (file ∷ files) (Err refusal)
 
 -- Part 3: the first import whose fingerprint differs, as a refusal
@@ -76,7 +76,7 @@ missing_refusal listed earlier wave =
 
 -- the formats of the files of a wave after earlier packages
 abbrev pub FormatsAfter : LoadInputs → List Package → List (List ℕ) → List (List ℕ) → Result (List Package) Cause → Type 0
-FormatsAfter inputs earlier paths = Formats inputs (rule_after uniform (object_entries earlier)) paths
+FormatsAfter inputs earlier paths = Formats inputs (rules_after uniform_rules (object_entries earlier)) paths
 
 -- A wave after earlier packages: all of it is loaded, or this is its first refusal, part by part.
 abbrev pub Wave : LoadInputs → Contents → List Package → List (List ℕ) → Result (List Package) Cause → Type 0

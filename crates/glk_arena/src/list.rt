@@ -1,7 +1,10 @@
 // The loaded packages in load order, with tables over them.
 ghost use Rattle.std.specs.Prelude.{◌≡◌, ◌+◌, ◌<◌, ◌≤◌, ◌++◌, ◌∷◌, ℕ, List, [], length, get_or, All, IfOk};
+ghost use Rattle.std.specs.Option.{option_or};
 ghost use Rattle.glk_obj.specs.Object.{IsObject};
-ghost use Rattle.glk_package.specs.HeaderRule.{uniform, rule_after, rule_view};
+ghost use Rattle.glk_package.specs.HeaderRule.{uniform, header_after, header_view};
+ghost use Rattle.glk_package.specs.WidthRule.{uniform_width, width_after, width_view};
+ghost use Rattle.glk_package.specs.ObjectRules.{uniform_rules, rules_after, rules_view};
 ghost use Rattle.glk_arena.specs.World.{Package, object_entries, objects_of, package_of_object, first_object, object_count, file_bytes, symbol_count, package_limit, package_of_row};
 ghost use Rattle.glk_base.specs.Limits.{file_limit};
 ghost use Rattle.glk_arena.specs.Stored.{IsWhole};
@@ -9,7 +12,7 @@ ghost use Rattle.glk_arena.specs.Stored.{IsWhole};
 use crate::stored::LoadedPackage;
 use glk_base::OutOfMemory;
 use glk_obj::ObjView;
-use glk_package::HeaderRule;
+use glk_package::{HeaderRule, ObjectRules, WidthRule};
 use std::alloc::Global;
 use std::marker::Model;
 
@@ -25,18 +28,20 @@ pub(crate) struct PackageList {
     rows: Vec<u32>,
     bytes: u64,
     symbols: u64,
+    // the length of the long hashes of the first object that has any
+    width: Option<u32>,
 }
 
 impl Model for PackageList {
     ghost use Rattle.std.specs.Prelude.{List};
     ghost use Rattle.glk_arena.specs.World.{Package};
-    ghost use Rattle.glk_arena.specs.Tables.{AreTables};
+    ghost use Rattle.glk_arena.specs.Tables.{IsIndexed};
 
     ghost Value = { List Package };
 
     ghost view = { λ l. l.packages.items };
 
-    ghost invariant = { λ l. AreTables l.packages.items l.owners.items l.firsts.items l.rows.items l.bytes l.symbols };
+    ghost invariant = { λ l. IsIndexed l.packages.items l.owners.items l.firsts.items l.rows.items l.bytes l.symbols l.width };
 }
 
 impl PackageList {
@@ -50,6 +55,7 @@ impl PackageList {
             rows: Vec::new(alloc),
             bytes: 0,
             symbols: 0,
+            width: None,
         }
     }
 
@@ -70,9 +76,29 @@ impl PackageList {
         &self.packages[p]
     }
 
-    // The rule for the lines of further objects: that of the first one, where there is one.
-    pub(crate) fn rule(&self) -> HeaderRule<'_>
-        ensures { rule_view result ≡ rule_after uniform (object_entries self.now) }
+    // The rules for further objects.
+    pub(crate) fn rules(&self) -> ObjectRules<'_>
+        ensures { rules_view result ≡ rules_after uniform_rules (object_entries self.now) }
+    {
+        ObjectRules {
+            headers: self.header_rule(),
+            widths: self.width_rule(),
+        }
+    }
+
+    // The length of the long hashes of further objects: that of the first that has any.
+    fn width_rule(&self) -> WidthRule
+        ensures { width_view result ≡ width_after uniform_width (object_entries self.now) }
+    {
+        match self.width {
+            Some(width) => WidthRule::Exactly(width),
+            None => WidthRule::Uniform,
+        }
+    }
+
+    // The line of further objects: that of the first one, where there is one.
+    fn header_rule(&self) -> HeaderRule<'_>
+        ensures { header_view result ≡ header_after uniform (object_entries self.now) }
     {
         if self.objects() == 0 {
             return HeaderRule::Uniform;
@@ -165,10 +191,12 @@ impl PackageList {
             mut rows,
             bytes,
             symbols,
+            width,
         } = self;
         let first = owners.len();
         let more_bytes = last.bytes() as u64;
         let more_symbols = last.symbols() as u64;
+        let width = first_of(width, last.hash_width());
         owners.resize(first + last.objects(), packages.len() as u32)?;
         firsts.push(first as u32)?;
         rows.push(symbols as u32)?;
@@ -180,7 +208,18 @@ impl PackageList {
             rows,
             bytes: bytes + more_bytes,
             symbols: symbols + more_symbols,
+            width,
         })
+    }
+}
+
+// A width that is settled, else that of what comes after.
+fn first_of(settled: Option<u32>, later: Option<u32>) -> Option<u32>
+    ensures { result ≡ option_or settled later }
+{
+    match settled {
+        Some(width) => Some(width),
+        None => later,
     }
 }
 

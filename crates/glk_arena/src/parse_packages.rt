@@ -1,7 +1,7 @@
 // The objects of the files of a wave.
 ghost use Rattle.std.specs.Prelude.{◌≡◌, ◌≤◌, ◌+◌, length, drop, map, Ok, Err, IfOk, IfErr};
 ghost use Rattle.std.specs.List.{sum_by};
-ghost use Rattle.glk_package.specs.HeaderRule.{uniform, rule_after, rule_view};
+ghost use Rattle.glk_package.specs.ObjectRules.{rules_view};
 ghost use Rattle.glk_package.specs.Package.{PackageFile};
 ghost use Rattle.glk_arena.specs.World.{object_entries, file_bytes, package_limit};
 ghost use Rattle.glk_base.specs.Limits.{file_limit};
@@ -17,23 +17,23 @@ use crate::refusal::package_refusal;
 use crate::stored::{LoadedPackage, StoredObject, store_objects};
 use glk_base::{Fault, Text};
 use glk_cause::Cause;
-use glk_package::{HeaderRule, objects};
+use glk_package::{ObjectRules, objects};
 use std::alloc::Global;
 use std::collections::VecDeque;
 
 // What is kept of the objects of the file at this path.
 fn parse_package(
     alloc: Global,
-    lines: HeaderRule<'_>,
+    rules: ObjectRules<'_>,
     path: &[u8],
     file: &[u8],
 ) -> Result<Vec<StoredObject>, Fault<Cause>>
     requires { length file.now ≤ file_limit }
-    ensures ok { IfOk result (λ kept. HoldsStored (rule_view lines.entry) file.now kept.items) }
+    ensures ok { IfOk result (λ kept. HoldsStored (rules_view rules.entry) file.now kept.items) }
     ensures held { IfOk result (λ kept. AreStored file.now kept.items) }
-    ensures err { IfErr result (IsRefusedFor (IsFormatRefusal (rule_view lines.entry) file.now path.now)) }
+    ensures err { IfErr result (IsRefusedFor (IsFormatRefusal (rules_view rules.entry) file.now path.now)) }
 {
-    match objects(alloc, file, lines) {
+    match objects(alloc, file, rules) {
         Ok(packed) => {
             let kept = store_objects(alloc, file, &packed)?;
             Ok(kept)
@@ -46,18 +46,18 @@ fn parse_package(
 // The package with this path, whose file is at that one.
 fn load_package(
     alloc: Global,
-    lines: HeaderRule<'_>,
+    rules: ObjectRules<'_>,
     name: &[u8],
     path: &[u8],
     file: Text,
 ) -> Result<LoadedPackage, Fault<Cause>>
     requires { length file ≤ file_limit }
-    ensures ok { IfOk result (IsPackageIn (rule_view lines.entry) name.now file) }
+    ensures ok { IfOk result (IsPackageIn (rules_view rules.entry) name.now file) }
     ensures whole { IfOk result IsWhole }
-    ensures err { IfErr result (IsRefusedFor (IsFormatRefusal (rule_view lines.entry) file path.now)) }
+    ensures err { IfErr result (IsRefusedFor (IsFormatRefusal (rules_view rules.entry) file path.now)) }
 {
     let name = Text::new(alloc, name)?;
-    match parse_package(alloc, lines, path, file.as_bytes()) {
+    match parse_package(alloc, rules, path, file.as_bytes()) {
         Ok(kept) => Ok(LoadedPackage::new(name, file, kept)),
         Err(fault) => Err(fault),
     }
@@ -85,7 +85,7 @@ pub(crate) fn append_wave(
     while let Some(file) = rest.pop_front() {
         let name = names.get(list.packages() as usize);
         let path = file_of(main, config, name).as_bytes();
-        match load_package(alloc, list.rule(), name, path, file) {
+        match load_package(alloc, list.rules(), name, path, file) {
             Ok(package) => list = list.push(package)?,
             Err(fault) => return Err(fault),
         }

@@ -2,6 +2,7 @@
 ghost use Rattle.std.specs.Prelude.{◌≡◌, ◌<◌, ◌≤◌, ℕ, List, [], length, map, get_or, All, IfOk, option_copied};
 ghost use Rattle.glk_obj.specs.Object.{IsObject};
 ghost use Rattle.glk_package.specs.ObjectEntry.{ObjectEntry, IsFoundIn};
+ghost use Rattle.glk_package.specs.WidthRule.{first_width};
 ghost use Rattle.glk_arena.specs.World.{package_symbols};
 ghost use Rattle.glk_base.specs.Limits.{file_limit};
 ghost use Rattle.glk_arena.specs.Imports.{package_fingerprint};
@@ -182,6 +183,18 @@ impl LoadedPackage {
         ensures { result ≡ package_fingerprint self.now }
     {
         self.print
+    }
+
+    // The length of the long hashes of its first object that has any.
+    pub(crate) fn hash_width(&self) -> Option<u32>
+        ensures { result ≡ first_width self.now.objects }
+    {
+        for i in 0..self.objects() {
+            if let Some(width) = self.object(i).hash_width() {
+                return Some(width);
+            }
+        }
+        None
     }
 
     // How many symbols its objects have.

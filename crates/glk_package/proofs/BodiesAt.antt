@@ -8,7 +8,7 @@ use Rattle.glk_base.proofs.BytesAt.{is_at_part}
 use Rattle.glk_ar.specs.Archive.{Entry, IsMemberAt, body_at}
 use Rattle.glk_ar.specs.Member.{header_length, size_of}
 use Rattle.glk_ar.specs.Part.{Part, mark, IsMarkAt, HoldsPart}
-use Rattle.glk_package.specs.HeaderRule.{HeaderRule}
+use Rattle.glk_package.specs.ObjectRules.{ObjectRules}
 use Rattle.glk_package.specs.ObjectEntry.{ObjectEntry, IsFoundIn}
 use Rattle.glk_package.specs.Members.{IsObjectIn}
 
@@ -50,9 +50,9 @@ part_inside : (body : List ℕ) (part : Part) → HoldsPart body part → part.a
 part_inside body part holds = let room = mark_inside body holds.mark_at holds.first.here in omega (arith, room, holds.at)
 
 -- An object that a body holds is in the file where it says.
-pub found : (headers : HeaderRule) (n at : ℕ) (name : Option (List ℕ)) (file body : List ℕ) (object : ObjectEntry)
-    → IsObjectIn headers n at name body object → IsAt file at body → IsFoundIn file object
-found headers n at name file body object is whole =
+pub found : (rules : ObjectRules) (n at : ℕ) (name : Option (List ℕ)) (file body : List ℕ) (object : ObjectEntry)
+    → IsObjectIn rules n at name body object → IsAt file at body → IsFoundIn file object
+found rules n at name file body object is whole =
     let k : ℕ = is.part.at in
     let offset : object.at ≡ at + k = ap (λ o. o.at) is.is in
     let bytes : object.goobj ≡ drop k body = ap (λ o. o.goobj) is.is ∙ is.holds.goobj in

@@ -1,15 +1,52 @@
--- The rule for lines after some objects.
-use Rattle.std.proofs.Common.{◌≡◌, List, [], ◌∷◌, ◌++◌, refl}
-use Rattle.glk_package.specs.HeaderRule.{HeaderRule, any, uniform, exactly, rule_after}
+-- The rules after some objects.
+use Rattle.std.proofs.Common.{◌≡◌, ◌∙◌, List, [], ◌∷◌, ◌++◌, refl, sym, ap, ℕ, Option, Some, None}
+use Rattle.std.specs.Option.{option_or}
+use Rattle.glk_obj.specs.Records.{hash_width}
+use Rattle.glk_package.specs.HeaderRule.{HeaderRule, any, uniform, exactly, header_after}
+use Rattle.glk_package.specs.WidthRule.{WidthRule, any_width, uniform_width, exactly_width, first_width, width_or_open, width_after}
+use Rattle.glk_package.specs.ObjectRules.{ObjectRules, rules_after}
 use Rattle.glk_package.specs.ObjectEntry.{ObjectEntry}
 
-pub after_none : (headers : HeaderRule) → rule_after headers [] ≡ headers
-after_none any = refl
-after_none uniform = refl
-after_none (exactly line) = refl
+abbrev with_both : HeaderRule → WidthRule → ObjectRules
+with_both headers widths = record { headers = headers; widths = widths }
 
-pub after_both : (headers : HeaderRule) (xs ys : List ObjectEntry) → rule_after (rule_after headers xs) ys ≡ rule_after headers (xs ++ ys)
-after_both any xs ys = refl
-after_both uniform [] ys = refl
-after_both uniform (x ∷ xs) ys = refl
-after_both (exactly line) xs ys = refl
+line_none : (headers : HeaderRule) → header_after headers [] ≡ headers
+line_none any = refl
+line_none uniform = refl
+line_none (exactly line) = refl
+
+line_both : (headers : HeaderRule) (xs ys : List ObjectEntry) → header_after (header_after headers xs) ys ≡ header_after headers (xs ++ ys)
+line_both any xs ys = refl
+line_both uniform [] ys = refl
+line_both uniform (x ∷ xs) ys = refl
+line_both (exactly line) xs ys = refl
+
+or_both : (a b c : Option ℕ) → option_or (option_or a b) c ≡ option_or a (option_or b c)
+or_both None b c = refl
+or_both (Some x) b c = refl
+
+pub first_both : (xs ys : List ObjectEntry) → first_width (xs ++ ys) ≡ option_or (first_width xs) (first_width ys)
+first_both [] ys = refl
+first_both (x ∷ xs) ys = ap (option_or (hash_width x.goobj)) (first_both xs ys) ∙ sym (or_both (hash_width x.goobj) (first_width xs) (first_width ys))
+
+open_both : (a : Option ℕ) (ys : List ObjectEntry) → width_after (width_or_open a) ys ≡ width_or_open (option_or a (first_width ys))
+open_both None ys = refl
+open_both (Some width) ys = refl
+
+width_none : (widths : WidthRule) → width_after widths [] ≡ widths
+width_none any_width = refl
+width_none uniform_width = refl
+width_none (exactly_width width) = refl
+
+width_both : (widths : WidthRule) (xs ys : List ObjectEntry) → width_after (width_after widths xs) ys ≡ width_after widths (xs ++ ys)
+width_both any_width xs ys = refl
+width_both uniform_width xs ys = open_both (first_width xs) ys ∙ ap width_or_open (sym (first_both xs ys))
+width_both (exactly_width width) xs ys = refl
+
+pub after_none : (rules : ObjectRules) → rules_after rules [] ≡ rules
+after_none rules = ap (λ h. with_both h (width_after rules.widths [])) (line_none rules.headers) ∙ ap (λ w. with_both rules.headers w) (width_none rules.widths)
+
+pub after_both : (rules : ObjectRules) (xs ys : List ObjectEntry) → rules_after (rules_after rules xs) ys ≡ rules_after rules (xs ++ ys)
+after_both rules xs ys =
+    ap (λ h. with_both h (width_after (width_after rules.widths xs) ys)) (line_both rules.headers xs ys)
+    ∙ ap (λ w. with_both (header_after rules.headers (xs ++ ys)) w) (width_both rules.widths xs ys)

@@ -9,7 +9,7 @@ use Rattle.glk_ar.specs.Walks.{walk_from_start, entry_of, Steps}
 use Rattle.glk_base.specs.declared.fault.Fault.{Fault}
 use Rattle.glk_base.specs.declared.fault.Fault.TheVariants as fault
 use Rattle.glk_package.specs.declared.refusal.PackageBad.{PackageBad}
-use Rattle.glk_package.specs.HeaderRule.{HeaderRule, rule_after}
+use Rattle.glk_package.specs.ObjectRules.{ObjectRules, rules_after}
 use Rattle.glk_package.specs.Members.{AreObjectsOf, AreObjects, IsMemberFault, archive_fault}
 use Rattle.glk_package.specs.Package.{AreMembers, IsFaultAt, ArchiveFile, OrOutOfMemory}
 use Rattle.glk_package.specs.ObjectEntry.{ObjectEntry}
@@ -17,12 +17,12 @@ use Rattle.glk_package.proofs.BodiesAt.{is_at_end, body_is_at}
 use Rattle.glk_package.proofs.RuleAfter.{after_none, after_both}
 
 -- The walk has passed n members of the file, and these are their objects.
-pub record Passed (headers : HeaderRule) (file : List ℕ) (walk : Walk) (n : ℕ) (objects : List ObjectEntry) : Type 0 where
+pub record Passed (rules : ObjectRules) (file : List ℕ) (walk : Walk) (n : ℕ) (objects : List ObjectEntry) : Type 0 where
   pub magic : HasMagic file
   pub bytes : walk.bytes ≡ file
   pub done : List Entry
   pub members : AreMembers file first_offset done walk.at
-  pub hold : AreObjects headers 0 done objects
+  pub hold : AreObjects rules 0 done objects
   pub number : n ≡ length done
   pub low : n ≤ walk.at
 
@@ -33,19 +33,19 @@ members_more file p [] q e same member =
 members_more file p (d ∷ ds) q e members member = (members.0, members_more file (after file p) ds q e members.1 member)
 
 -- and its objects come after theirs
-pub objects_more : (headers : HeaderRule) (n : ℕ) (es : List Entry) (objects here : List ObjectEntry) (e : Entry) → AreObjects headers n es objects
-    → AreObjectsOf (rule_after headers objects) (n + length es) e here → AreObjects headers n (es ++ e ∷ []) (objects ++ here)
-objects_more headers n [] objects here e none gives =
-    let rule : rule_after headers objects ≡ headers = ap (λ os. rule_after headers os) none ∙ after_none headers in
-    let P : ℕ → Type 0 = λ k. AreObjectsOf (rule_after headers objects) k e here in
-    let Q : HeaderRule → Type 0 = λ w. AreObjectsOf w n e here in
-    let first : AreObjectsOf headers n e here = subst Q rule (subst P (add-zero n) gives) in
+pub objects_more : (rules : ObjectRules) (n : ℕ) (es : List Entry) (objects here : List ObjectEntry) (e : Entry) → AreObjects rules n es objects
+    → AreObjectsOf (rules_after rules objects) (n + length es) e here → AreObjects rules n (es ++ e ∷ []) (objects ++ here)
+objects_more rules n [] objects here e none gives =
+    let rule : rules_after rules objects ≡ rules = ap (λ os. rules_after rules os) none ∙ after_none rules in
+    let P : ℕ → Type 0 = λ k. AreObjectsOf (rules_after rules objects) k e here in
+    let Q : ObjectRules → Type 0 = λ w. AreObjectsOf w n e here in
+    let first : AreObjectsOf rules n e here = subst Q rule (subst P (add-zero n) gives) in
     (here, [], first, refl, ap (λ os. os ++ here) none ∙ sym (append-nil here))
-objects_more headers n (d ∷ ds) objects here e hold gives =
-    let later : HeaderRule = rule_after headers hold.0 in
-    let rule : rule_after headers objects ≡ rule_after later hold.1 = ap (λ os. rule_after headers os) hold.4 ∙ sym (after_both headers hold.0 hold.1) in
-    let P : ℕ → Type 0 = λ k. AreObjectsOf (rule_after headers objects) k e here in
-    let Q : HeaderRule → Type 0 = λ w. AreObjectsOf w (n + 1 + length ds) e here in
+objects_more rules n (d ∷ ds) objects here e hold gives =
+    let later : ObjectRules = rules_after rules hold.0 in
+    let rule : rules_after rules objects ≡ rules_after later hold.1 = ap (λ os. rules_after rules os) hold.4 ∙ sym (after_both rules hold.0 hold.1) in
+    let P : ℕ → Type 0 = λ k. AreObjectsOf (rules_after rules objects) k e here in
+    let Q : ObjectRules → Type 0 = λ w. AreObjectsOf w (n + 1 + length ds) e here in
     let numbers : n + length (d ∷ ds) ≡ n + 1 + length ds = omega arith in
     let more : AreObjects later (n + 1) (ds ++ e ∷ []) (hold.1 ++ here) = objects_more later (n + 1) ds hold.1 here e hold.3 (subst Q rule (subst P numbers gives)) in
     (hold.0, hold.1 ++ here, hold.2, more, ap (λ os. os ++ here) hold.4 ∙ append_assoc hold.0 hold.1 here)
@@ -55,51 +55,51 @@ pub run_of : (file : List ℕ) (p : ℕ) (es : List Entry) (q : ℕ) → AreMemb
 run_of file p [] q same end = same ∙ end
 run_of file p (e ∷ es) q members end = (members.0, run_of file (after file p) es q members.1 end)
 
-pub passed_start : (headers : HeaderRule) (file : List ℕ) → HasMagic file → Passed headers file (walk_from_start file) 0 []
-passed_start headers file magic = record { magic = magic; bytes = refl; done = []; members = refl; hold = refl; number = refl; low = omega arith }
+pub passed_start : (rules : ObjectRules) (file : List ℕ) → HasMagic file → Passed rules file (walk_from_start file) 0 []
+passed_start rules file magic = record { magic = magic; bytes = refl; done = []; members = refl; hold = refl; number = refl; low = omega arith }
 
 -- the member of a step
-pub step_member : (headers : HeaderRule) (file : List ℕ) (old new : Walk) (n : ℕ) (objects : List ObjectEntry) (m : Member) → Passed headers file old n objects → Steps old (Some (Ok m)) new → IsMemberAt file old.at (entry_of m)
-step_member headers file old new n objects m passed step =
+pub step_member : (rules : ObjectRules) (file : List ℕ) (old new : Walk) (n : ℕ) (objects : List ObjectEntry) (m : Member) → Passed rules file old n objects → Steps old (Some (Ok m)) new → IsMemberAt file old.at (entry_of m)
+step_member rules file old new n objects m passed step =
     let P : List ℕ → Type 0 = λ bs. IsMemberAt bs old.at (entry_of m) in subst P passed.bytes step.0
 
 -- its number is below the file's length, and its body is inside the file
-pub step_room : (headers : HeaderRule) (file : List ℕ) (old new : Walk) (n : ℕ) (objects : List ObjectEntry) (m : Member) → Passed headers file old n objects → Steps old (Some (Ok m)) new
+pub step_room : (rules : ObjectRules) (file : List ℕ) (old new : Walk) (n : ℕ) (objects : List ObjectEntry) (m : Member) → Passed rules file old n objects → Steps old (Some (Ok m)) new
     → (n < length file) × (body_at (entry_of m) + length m.body.now ≤ length file)
-step_room headers file old new n objects m passed step =
-    let member : IsMemberAt file old.at (entry_of m) = step_member headers file old new n objects m passed step in
+step_room rules file old new n objects m passed step =
+    let member : IsMemberAt file old.at (entry_of m) = step_member rules file old new n objects m passed step in
     let inside : old.at < length file = member.inside in
     let room = is_at_end file (body_at (entry_of m)) m.body.now (body_is_at file old.at (entry_of m) member) in
     let low : n ≤ old.at = passed.low in
     (omega (arith, inside, low), room)
 
-pub passed_more : (headers : HeaderRule) (file : List ℕ) (old new : Walk) (n : ℕ) (objects here : List ObjectEntry) (m : Member) → Passed headers file old n objects → Steps old (Some (Ok m)) new → AreObjectsOf (rule_after headers objects) n (entry_of m) here → Passed headers file new (n + 1) (objects ++ here)
-passed_more headers file old new n objects here m passed step gives =
-    let member : IsMemberAt file old.at (entry_of m) = step_member headers file old new n objects m passed step in
+pub passed_more : (rules : ObjectRules) (file : List ℕ) (old new : Walk) (n : ℕ) (objects here : List ObjectEntry) (m : Member) → Passed rules file old n objects → Steps old (Some (Ok m)) new → AreObjectsOf (rules_after rules objects) n (entry_of m) here → Passed rules file new (n + 1) (objects ++ here)
+passed_more rules file old new n objects here m passed step gives =
+    let member : IsMemberAt file old.at (entry_of m) = step_member rules file old new n objects m passed step in
     let inside : old.at < length file = member.inside in
     let at : new.at ≡ after file old.at = ap (λ w. w.at) step.1 ∙ ap (λ bs. after bs old.at) passed.bytes in
     let P : ℕ → Type 0 = λ q. AreMembers file first_offset (passed.done ++ entry_of m ∷ []) q in
-    let Q : ℕ → Type 0 = λ k. AreObjectsOf (rule_after headers objects) k (entry_of m) here in
+    let Q : ℕ → Type 0 = λ k. AreObjectsOf (rules_after rules objects) k (entry_of m) here in
     let low : n ≤ old.at = passed.low in
     record {
       magic = passed.magic;
       bytes = ap (λ w. w.bytes) step.1 ∙ passed.bytes;
       done = passed.done ++ entry_of m ∷ [];
       members = subst P (sym at) (members_more file first_offset passed.done old.at (entry_of m) passed.members member);
-      hold = objects_more headers 0 passed.done objects here (entry_of m) passed.hold (subst Q (passed.number ∙ omega arith) gives);
+      hold = objects_more rules 0 passed.done objects here (entry_of m) passed.hold (subst Q (passed.number ∙ omega arith) gives);
       number = omega (arith, passed.number, length-append passed.done (entry_of m ∷ []));
       low = omega (arith, at);
     }
 
-pub passed_end : (headers : HeaderRule) (file : List ℕ) (old new : Walk) (n : ℕ) (objects : List ObjectEntry) → Passed headers file old n objects → Steps old None new → ArchiveFile headers file (Ok objects)
-passed_end headers file old new n objects passed step =
+pub passed_end : (rules : ObjectRules) (file : List ℕ) (old new : Walk) (n : ℕ) (objects : List ObjectEntry) → Passed rules file old n objects → Steps old None new → ArchiveFile rules file (Ok objects)
+passed_end rules file old new n objects passed step =
     let end : old.at ≡ length file = step.0 ∙ ap length passed.bytes in
     (passed.done, (passed.magic, run_of file first_offset passed.done old.at passed.members end), passed.hold)
 
 -- what the walk stops at is the first fault
-pub passed_fault : (headers : HeaderRule) (file : List ℕ) (old : Walk) (n : ℕ) (objects : List ObjectEntry) (bad : PackageBad) → Passed headers file old n objects → IsFaultAt (rule_after headers objects) file old.at n bad → ArchiveFile headers file (Err bad)
-passed_fault headers file old n objects bad passed fault =
-    let P : ℕ → Type 0 = λ k. IsFaultAt (rule_after headers objects) file old.at k bad in
+pub passed_fault : (rules : ObjectRules) (file : List ℕ) (old : Walk) (n : ℕ) (objects : List ObjectEntry) (bad : PackageBad) → Passed rules file old n objects → IsFaultAt (rules_after rules objects) file old.at n bad → ArchiveFile rules file (Err bad)
+passed_fault rules file old n objects bad passed fault =
+    let P : ℕ → Type 0 = λ k. IsFaultAt (rules_after rules objects) file old.at k bad in
     inr (
       passed.magic,
       record {
@@ -112,14 +112,14 @@ passed_fault headers file old n objects bad passed fault =
       },
     )
 
-pub passed_refused : (headers : HeaderRule) (file : List ℕ) (old new : Walk) (n : ℕ) (objects : List ObjectEntry) (broken : ArBad) → Passed headers file old n objects → Steps old (Some (Err broken)) new → ArchiveFile headers file (Err (archive_fault n broken))
-passed_refused headers file old new n objects broken passed step =
+pub passed_refused : (rules : ObjectRules) (file : List ℕ) (old new : Walk) (n : ℕ) (objects : List ObjectEntry) (broken : ArBad) → Passed rules file old n objects → Steps old (Some (Err broken)) new → ArchiveFile rules file (Err (archive_fault n broken))
+passed_refused rules file old new n objects broken passed step =
     let P : List ℕ → Type 0 = λ bs. IsRefused bs old.at broken in
-    passed_fault headers file old n objects (archive_fault n broken) passed (inl (broken, subst P passed.bytes step.0, refl))
+    passed_fault rules file old n objects (archive_fault n broken) passed (inl (broken, subst P passed.bytes step.0, refl))
 
-pub passed_held : (headers : HeaderRule) (file : List ℕ) (old new : Walk) (n : ℕ) (objects : List ObjectEntry) (m : Member) (bad : PackageBad) → Passed headers file old n objects → Steps old (Some (Ok m)) new → IsMemberFault (rule_after headers objects) n (entry_of m) bad → ArchiveFile headers file (Err bad)
-passed_held headers file old new n objects m bad passed step fault =
-    passed_fault headers file old n objects bad passed (inr (entry_of m, step_member headers file old new n objects m passed step, fault))
+pub passed_held : (rules : ObjectRules) (file : List ℕ) (old new : Walk) (n : ℕ) (objects : List ObjectEntry) (m : Member) (bad : PackageBad) → Passed rules file old n objects → Steps old (Some (Ok m)) new → IsMemberFault (rules_after rules objects) n (entry_of m) bad → ArchiveFile rules file (Err bad)
+passed_held rules file old new n objects m bad passed step fault =
+    passed_fault rules file old n objects bad passed (inr (entry_of m, step_member rules file old new n objects m passed step, fault))
 
 -- a refusal for one fault is one for what it means
 pub held_more : (P Q : PackageBad → Type 0) (refusal : Fault PackageBad) → ((bad : PackageBad) → P bad → Q bad) → OrOutOfMemory P refusal → OrOutOfMemory Q refusal

@@ -1,7 +1,7 @@
 -- Which lines the objects of a file may have.
 use Rattle.std.specs.Prelude.{◌≡◌, ℕ, List, [], ◌∷◌, ⊤}
-use Rattle.glk_package.specs.declared.header_rule.HeaderRule.{HeaderRule as CallRule}
-use Rattle.glk_package.specs.declared.header_rule.HeaderRule.TheVariants as rule
+use Rattle.glk_package.specs.declared.object_rules.HeaderRule.{HeaderRule as CallRule}
+use Rattle.glk_package.specs.declared.object_rules.HeaderRule.TheVariants as rule
 use Rattle.glk_package.specs.ObjectEntry.{ObjectEntry}
 
 -- each object its own, or all that of the first of them, or exactly this one
@@ -11,10 +11,10 @@ pub data HeaderRule : Type 0 where
   exactly : List ℕ → HeaderRule
 
 -- the rule of a call, without where its line is in memory
-abbrev pub rule_view : CallRule → HeaderRule
-rule_view rule.Any = any
-rule_view rule.Uniform = uniform
-rule_view (rule.Exactly line) = exactly line.now
+abbrev pub header_view : CallRule → HeaderRule
+header_view rule.Any = any
+header_view rule.Uniform = uniform
+header_view (rule.Exactly line) = exactly line.now
 
 -- An object may have this line.
 abbrev pub Allows : HeaderRule → List ℕ → Type 0
@@ -28,8 +28,8 @@ pub record IsMismatch (headers : HeaderRule) (first here : List ℕ) : Type 0 wh
   pub other : ¬ (here ≡ first)
 
 -- The rule for the objects after these: the first object, if there is one, settles a line that is yet open.
-abbrev pub rule_after : HeaderRule → List ObjectEntry → HeaderRule
-rule_after any objects = any
-rule_after uniform [] = uniform
-rule_after uniform (o ∷ os) = exactly o.line
-rule_after (exactly first) objects = exactly first
+abbrev pub header_after : HeaderRule → List ObjectEntry → HeaderRule
+header_after any objects = any
+header_after uniform [] = uniform
+header_after uniform (o ∷ os) = exactly o.line
+header_after (exactly first) objects = exactly first

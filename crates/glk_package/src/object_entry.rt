@@ -1,18 +1,20 @@
 // The object that a member of a package file holds.
-ghost use Rattle.std.specs.Prelude.{◌≡◌, ◌+◌, ◌≤◌, length, IfOk, IfErr};
+ghost use Rattle.std.specs.Prelude.{◌≡◌, ◌+◌, ◌≤◌, length, IfOk, OnOk, IfErr};
 ghost use Rattle.std.specs.Option.{option_copied};
 ghost use Rattle.glk_base.specs.Limits.{file_limit};
 ghost use Rattle.glk_obj.specs.Object.{IsObject};
 ghost use Rattle.glk_obj.specs.Views.{IsShapeOf};
-ghost use Rattle.glk_package.specs.HeaderRule.{rule_view};
-ghost use Rattle.glk_package.specs.Members.{IsObjectIn, IsBodyFault};
+ghost use Rattle.glk_obj.specs.Records.{hash_width};
+ghost use Rattle.glk_package.specs.WidthRule.{width_view, FitsWidth};
+ghost use Rattle.glk_package.specs.ObjectRules.{rules_view};
+ghost use Rattle.glk_package.specs.Members.{IsObjectIn, IsObjectFault, IsBodyFault};
 ghost use Rattle.glk_package.specs.Package.{OrOutOfMemory};
 
-use crate::header_rule::{HeaderRule, mismatch, other_line};
+use crate::object_rules::{ObjectRules, WidthRule, fits_width, mismatch, other_line};
 use crate::refusal::PackageBad;
 use glk_ar::{MARK_RULE, PartBad, object_part};
 use glk_base::{Fault, RuleFamily};
-use glk_obj::{ObjShape, ObjView};
+use glk_obj::{ObjBad, ObjShape, ObjView};
 use std::alloc::Global;
 use std::marker::Model;
 
@@ -92,18 +94,44 @@ impl<'a> ObjectEntry<'a> {
     }
 }
 
+// The number of the rule that the long hashes of all objects of a link have one length.
+const WIDTH_RULE: u8 = 17;
+
+// Where the header of an object says where its long hashes begin.
+const WIDTH_OFFSET: u64 = 60;
+
+// The shape of an object whose long hashes have the length that is asked, or its first broken rule.
+fn shape_of(widths: WidthRule, goobj: &[u8]) -> Result<ObjShape, ObjBad>
+    ensures shape { IfOk result (λ shape. IsShapeOf goobj.now shape) }
+    ensures fits { OnOk result (FitsWidth (width_view widths) (hash_width goobj.now)) }
+    ensures err { IfErr result (λ bad. IsObjectFault (width_view widths) goobj.now bad.rule bad.offset) }
+{
+    match ObjShape::check(goobj) {
+        Ok(shape) => {
+            if fits_width(widths, shape.view(goobj).hash_width()) {
+                return Ok(shape);
+            }
+            Err(ObjBad {
+                rule: WIDTH_RULE,
+                offset: WIDTH_OFFSET,
+            })
+        }
+        Err(bad) => Err(bad),
+    }
+}
+
 // The object in a body that is at this offset in the file, or the first fault of the body.
 pub(crate) fn object_in<'a>(
     alloc: Global,
-    headers: HeaderRule<'_>,
+    rules: ObjectRules<'_>,
     member: u32,
     name: Option<&'a [u8]>,
     body: &'a [u8],
     at: u64,
 ) -> Result<ObjectEntry<'a>, Fault<PackageBad>>
     requires { at + length body.now ≤ file_limit }
-    ensures ok { IfOk result (IsObjectIn (rule_view headers.entry) member at (option_copied name.entry) body.now) }
-    ensures err { IfErr result (OrOutOfMemory (IsBodyFault (rule_view headers.entry) member at body.now)) }
+    ensures ok { IfOk result (IsObjectIn (rules_view rules.entry) member at (option_copied name.entry) body.now) }
+    ensures err { IfErr result (OrOutOfMemory (IsBodyFault (rules_view rules.entry) member at body.now)) }
 {
     let part = match object_part(body) {
         Ok(part) => part,
@@ -117,10 +145,10 @@ pub(crate) fn object_in<'a>(
             }));
         }
     };
-    if let Some(first) = mismatch(headers, part.line) {
+    if let Some(first) = mismatch(rules.headers, part.line) {
         return Err(Fault::Bad(other_line(alloc, member, first, part.line)?));
     }
-    match ObjShape::check(part.goobj) {
+    match shape_of(rules.widths, part.goobj) {
         Ok(shape) => Ok(ObjectEntry {
             member,
             name,

@@ -1,5 +1,5 @@
 // Package files, each byte by the format, and what is found in them.
-use crate::{HeaderRule, ObjectEntry, PackageBad, objects};
+use crate::{HeaderRule, ObjectEntry, ObjectRules, PackageBad, WidthRule, objects};
 use glk_base::{Fault, RuleFamily, Text};
 use std::alloc::{AllocError, Global};
 use std::process::Abort;
@@ -55,15 +55,23 @@ fn package(alloc: Global, size: &[u8], body: &[u8]) -> Result<Vec<u8>, AllocErro
     Ok(file)
 }
 
+// The rules after an object with this line.
+fn on_line() -> ObjectRules<'static> {
+    ObjectRules {
+        headers: HeaderRule::Exactly(LINE),
+        widths: WidthRule::Uniform,
+    }
+}
+
 // The objects of a file; all files are shorter than the limit.
 fn found<'a>(
     rt: &impl Abort,
     alloc: Global,
     file: &'a [u8],
-    headers: HeaderRule<'_>,
+    rules: ObjectRules<'_>,
 ) -> Result<Vec<ObjectEntry<'a>>, Fault<PackageBad>> {
     assert!(rt; file.len() <= 1 << 30);
-    objects(alloc, file, headers)
+    objects(alloc, file, rules)
 }
 
 #[test]
@@ -72,7 +80,7 @@ fn objects_are_found_where_they_are(rt: HostRuntime) -> Result<(), Fail> {
     let mut body = Vec::from_slice(alloc, b"go object linux amd64 t\n!\n")?;
     body.extend_from_slice(&least())?;
     let file = package(alloc, b"200       ", &body)?;
-    let entries = found(&rt, alloc, &file, HeaderRule::Uniform)?;
+    let entries = found(&rt, alloc, &file, ObjectRules::uniform())?;
     assert_eq!(rt; entries.len(), 2);
     assert_eq!(rt; entries[1].member(), 2);
     assert_eq!(rt; entries[1].name(), Some(b"b.o".as_slice()));
@@ -80,7 +88,7 @@ fn objects_are_found_where_they_are(rt: HostRuntime) -> Result<(), Fail> {
     assert_eq!(rt; entries[1].goobj(), least().as_slice());
     assert_eq!(rt; entries[1].at(), 420);
     assert_eq!(rt; entries[1].view().definitions(), 1);
-    let bare = found(&rt, alloc, &body, HeaderRule::Exactly(LINE))?;
+    let bare = found(&rt, alloc, &body, on_line())?;
     assert_eq!(rt; bare.len(), 1);
     assert_eq!(rt; bare[0].name(), None);
     assert_eq!(rt; bare[0].at(), 26);
@@ -93,9 +101,9 @@ fn fault(
     rt: &impl Abort,
     alloc: Global,
     file: &[u8],
-    headers: HeaderRule<'_>,
+    rules: ObjectRules<'_>,
 ) -> Option<PackageBad> {
-    match found(rt, alloc, file, headers) {
+    match found(rt, alloc, file, rules) {
         Err(Fault::Bad(bad)) => Some(bad),
         _ => None,
     }
@@ -146,17 +154,17 @@ fn a_file_has_its_first_fault(rt: HostRuntime) -> Result<(), Fail> {
     for (size, body, member, family, rule, offset) in BAD {
         let file = package(alloc, size, body)?;
         let want = Some(malformed(member, family, rule, offset));
-        assert_eq!(rt; fault(&rt, alloc, &file, HeaderRule::Uniform), want);
+        assert_eq!(rt; fault(&rt, alloc, &file, ObjectRules::uniform()), want);
     }
     let file = package(alloc, b"4         ", b"text")?;
     let not_go = Some(PackageBad::NotGo { member: 2 });
-    assert_eq!(rt; fault(&rt, alloc, &file, HeaderRule::Any), not_go);
+    assert_eq!(rt; fault(&rt, alloc, &file, ObjectRules::any()), not_go);
     let file = package(alloc, b"26        ", b"go object linux amd64 u\n!\n")?;
     let other = Some(PackageBad::HeaderMismatch {
         member: 2,
         first: Text::new(alloc, LINE)?,
         here: Text::new(alloc, b"go object linux amd64 u")?,
     });
-    assert_eq!(rt; fault(&rt, alloc, &file, HeaderRule::Uniform), other);
+    assert_eq!(rt; fault(&rt, alloc, &file, ObjectRules::uniform()), other);
     Ok(())
 }

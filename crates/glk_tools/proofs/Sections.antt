@@ -3,7 +3,7 @@ use Rattle.std.proofs.Common.{◌≡◌, ◌<◌, ◌+◌, ◌++◌, ℕ, List, 
 use Rattle.std.proofs.Math.Seq.{take-suc}
 use Rattle.std.proofs.lemmas.List.{append-nil}
 use Rattle.glk_package.specs.declared.refusal.PackageBad.{PackageBad}
-use Rattle.glk_package.specs.HeaderRule.{any}
+use Rattle.glk_package.specs.ObjectRules.{any_rules}
 use Rattle.glk_package.specs.ObjectEntry.{ObjectEntry}
 use Rattle.glk_package.proofs.Once.{one_package}
 use Rattle.glk_objdesc.specs.Described.{description_of}
@@ -38,9 +38,9 @@ pushed object before first name line all body a b c d e = rw (e, d, c, b, a) (si
 
 pub one_text : IsOneText
 one_text file (Ok a) (Ok b) x y =
-    let e = one_package any file (Ok x.0) (Ok y.0) x.1 y.1 in
+    let e = one_package any_rules file (Ok x.0) (Ok y.0) x.1 y.1 in
     let same : x.0 ≡ y.0 = cc in
     ap (λ t. Ok t) (x.2 ∙ ap sections_of same ∙ sym y.2)
-one_text file (Ok a) (Err b) x y = let e = one_package any file (Ok x.0) (Err b) x.1 y in cc
-one_text file (Err a) (Ok b) x y = let e = one_package any file (Err a) (Ok y.0) x y.1 in cc
-one_text file (Err a) (Err b) x y = let e = one_package any file (Err a) (Err b) x y in cc
+one_text file (Ok a) (Err b) x y = let e = one_package any_rules file (Ok x.0) (Err b) x.1 y in cc
+one_text file (Err a) (Ok b) x y = let e = one_package any_rules file (Err a) (Ok y.0) x y.1 in cc
+one_text file (Err a) (Err b) x y = let e = one_package any_rules file (Err a) (Err b) x y in cc

@@ -1,7 +1,7 @@
 -- The text of a package file.
 use Rattle.std.specs.Prelude.{◌≡◌, ℕ, List, [], ◌∷◌, ◌++◌, codes, Option, Some, None, Result, Ok, Err}
 use Rattle.glk_package.specs.declared.refusal.PackageBad.{PackageBad}
-use Rattle.glk_package.specs.HeaderRule.{any}
+use Rattle.glk_package.specs.ObjectRules.{any_rules}
 use Rattle.glk_package.specs.ObjectEntry.{ObjectEntry}
 use Rattle.glk_package.specs.Package.{PackageFile}
 use Rattle.glk_objdesc.specs.Described.{description_of}
@@ -21,10 +21,10 @@ unfoldable pub sections_of : List ObjectEntry → List ℕ
 sections_of [] = []
 sections_of (object ∷ later) = section_of object ++ sections_of later
 
--- what a file's text is, where all its objects are whole, whatever their lines are; else its first fault
+-- what a file's text is, where all its objects are whole, each standing for itself; else its first fault
 abbrev pub IsPackageText : List ℕ → Result (List ℕ) PackageBad → Type 0
-IsPackageText file (Ok text) = (objects : List ObjectEntry) × PackageFile any file (Ok objects) × (text ≡ sections_of objects)
-IsPackageText file (Err broken) = PackageFile any file (Err broken)
+IsPackageText file (Ok text) = (objects : List ObjectEntry) × PackageFile any_rules file (Ok objects) × (text ≡ sections_of objects)
+IsPackageText file (Err broken) = PackageFile any_rules file (Err broken)
 
 -- a file has one text, or one first fault
 abbrev pub IsOneText : Type 0

@@ -1,27 +1,27 @@
 // The text of a package file.
 ghost use Rattle.std.specs.Prelude.{◌≡◌, ◌≤◌, ◌++◌, IfOk, OnOk, IfErr, Ok, length};
 ghost use Rattle.glk_base.specs.Limits.{file_limit};
-ghost use Rattle.glk_package.specs.HeaderRule.{any};
+ghost use Rattle.glk_package.specs.ObjectRules.{any_rules};
 ghost use Rattle.glk_package.specs.Package.{IsRefusalOf};
 ghost use Rattle.glk_tools.specs.PackageText.{member_name, section_of, sections_of, IsPackageText};
 
 use glk_base::{Fault, OutOfMemory};
 use glk_objdesc::describe;
 use glk_objtext::print;
-use glk_package::{HeaderRule, ObjectEntry, PackageBad, objects};
+use glk_package::{ObjectEntry, ObjectRules, PackageBad, objects};
 use std::alloc::Global;
 
 /// The text of a package file of at most 2^30 bytes: for each object a comment with the name of
-/// its member, `-` for a bare object, and its canonical text. The lines of the objects may differ.
+/// its member, `-` for a bare object, and its canonical text. The objects need have nothing in common.
 ///
 /// # Errors
 /// The first fault of the file, as `glk_package::objects` has it; out of memory.
 pub fn dump_text(alloc: Global, file: &[u8]) -> Result<Vec<u8>, Fault<PackageBad>>
     requires { length file.now ≤ file_limit }
     ensures text { IfOk result (λ text. IsPackageText file.now (Ok text.items)) }
-    ensures fault { IfErr result (IsRefusalOf any file.now) }
+    ensures fault { IfErr result (IsRefusalOf any_rules file.now) }
 {
-    let entries = objects(alloc, file, HeaderRule::Any)?;
+    let entries = objects(alloc, file, ObjectRules::any())?;
     let text = sections(alloc, &entries)?;
     Ok(text)
 }

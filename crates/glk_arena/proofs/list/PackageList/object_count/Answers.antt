@@ -11,8 +11,8 @@ overflow_cast-result c =
     let inside : c.args.p < length c.self.inside.packages.items = omega (arith, c.requires, ap length c.self.view_is) in
     let found : c.index.result.now ≡ get_or c.self.inside.packages.items c.args.p no_package =
     get_or_read c.self.inside.packages.items c.args.p c.index.result.now inside c.index.ensures no_package in
-    let few = one_few c.self.inside.packages.items c.args.p inside c.self.invariant.whole in
-    omega (arith, few, ap object_number found, c.objects.ensures, c.self.invariant.small)
+    let few = one_few c.self.inside.packages.items c.args.p inside c.self.invariant.tables.whole in
+    omega (arith, few, ap object_number found, c.objects.ensures, c.self.invariant.tables.small)
 
 pub returns : goal.returns
 returns c =

@@ -5,4 +5,4 @@ use Rattle.glk_arena.proofs.WorldLemmas.{all_objects}
 use Rattle.glk_arena.proofs.list.PackageList.packages.Goals as goal
 
 pub returns-clause-objects : goal.returns-clause-objects
-returns-clause-objects c = subst (λ (w : List Package). All IsObject (objects_of w)) c.self.view_is (all_objects _ c.self.invariant.whole)
+returns-clause-objects c = subst (λ (w : List Package). All IsObject (objects_of w)) c.self.view_is (all_objects _ c.self.invariant.tables.whole)

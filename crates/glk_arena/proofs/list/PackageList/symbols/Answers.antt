@@ -4,4 +4,4 @@ use Rattle.glk_arena.proofs.TableLemmas.{table_symbols}
 use Rattle.glk_arena.proofs.list.PackageList.symbols.Goals as goal
 
 pub returns : goal.returns
-returns c = table_symbols _ _ _ _ _ _ c.self.invariant ∙ ap symbol_count c.self.view_is
+returns c = table_symbols _ _ _ _ _ _ c.self.invariant.tables ∙ ap symbol_count c.self.view_is

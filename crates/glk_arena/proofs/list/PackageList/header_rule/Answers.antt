@@ -3,7 +3,7 @@ use Rattle.glk_package.specs.HeaderRule.{exactly}
 use Rattle.glk_arena.specs.World.{Package}
 use Rattle.glk_arena.specs.ImportRefs.{no_package}
 use Rattle.glk_arena.proofs.WorldLemmas.{no_object, no_line_is, first_line_is}
-use Rattle.glk_arena.proofs.list.PackageList.rule.Goals as goal
+use Rattle.glk_arena.proofs.list.PackageList.header_rule.Goals as goal
 
 pub returns-then-objects-eq0 : goal.returns-then-objects-eq0
 returns-then-objects-eq0 c = sym (no_line_is c.args.self.now (omega (arith, c.objects.ensures, c.if-objects-eq0.true)))
