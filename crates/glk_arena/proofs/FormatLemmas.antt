@@ -12,7 +12,7 @@ use Rattle.glk_package.specs.ObjectEntry.{ObjectEntry}
 use Rattle.glk_package.proofs.RuleAfter.{first_both, after_both}
 use Rattle.glk_package.specs.WidthRule.{first_width}
 use Rattle.std.specs.Option.{option_or}
-use Rattle.glk_arena.specs.PackageRefusal.{refusal_of, IsRefusedFor}
+use Rattle.glk_package.specs.PackageRefusal.{refusal_of, IsRefusedFor}
 use Rattle.glk_arena.specs.World.{Package, object_entries, paths_of}
 use Rattle.glk_arena.specs.Waves.{LoadInputs, Formats, all_whole, broken, whole, broken_later, file_of}
 use Rattle.glk_arena.specs.LoadParts.{IsPackageIn, IsFormatRefusal}

@@ -11,7 +11,7 @@ use Rattle.glk_cause.proofs.ChainLaws.{then_one, gives_one, finds_one, function_
 use Rattle.glk_package.specs.ObjectRules.{ObjectRules, uniform_rules, rules_after}
 use Rattle.glk_package.specs.ObjectEntry.{ObjectEntry}
 use Rattle.glk_package.proofs.Once.{one_package}
-use Rattle.glk_arena.specs.PackageRefusal.{refusal_of}
+use Rattle.glk_package.specs.PackageRefusal.{refusal_of}
 use Rattle.glk_arena.specs.World.{Package, object_entries, file_bytes}
 use Rattle.glk_arena.specs.Waves.{LoadInputs, ReadsOne, Reads, Formats, all_whole, broken, whole, broken_later, Wave, Loads, refused, last, crowded, further, next_wave, listed_count, file_of, fingerprint_refusal, missing_refusal}
 

@@ -16,7 +16,7 @@ use Rattle.glk_package.specs.ObjectRules.{ObjectRules, uniform_rules, rules_afte
 use Rattle.glk_package.specs.ObjectEntry.{ObjectEntry}
 use Rattle.glk_package.specs.Package.{PackageFile}
 use Rattle.glk_package.proofs.Some.{some_package}
-use Rattle.glk_arena.specs.PackageRefusal.{refusal_of}
+use Rattle.glk_package.specs.PackageRefusal.{refusal_of}
 use Rattle.glk_arena.specs.World.{Package, paths_of, object_entries, file_bytes, package_limit}
 use Rattle.glk_arena.specs.Waves.{LoadInputs, Takes, ReadsOne, Reads, Formats, all_whole, broken, whole, broken_later, Wave, Loads, refused, last, crowded, further, IsLoad, first_wave, next_wave, listed_count, file_of, main_package, runtime_package, fingerprint_refusal, missing_refusal}
 use Rattle.glk_arena.proofs.FormatLemmas.{formats_paths}

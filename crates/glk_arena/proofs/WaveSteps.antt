@@ -27,7 +27,7 @@ use Rattle.glk_package.specs.ObjectEntry.{ObjectEntry}
 use Rattle.glk_package.specs.ObjectRules.{ObjectRules, uniform_rules, rules_after}
 use Rattle.glk_package.specs.declared.refusal.PackageBad.{PackageBad}
 use Rattle.glk_package.specs.declared.refusal.PackageBad.TheVariants as bad
-use Rattle.glk_arena.specs.PackageRefusal.{refusal_of, IsRefusedFor}
+use Rattle.glk_package.specs.PackageRefusal.{refusal_of, IsRefusedFor}
 use Rattle.glk_arena.specs.declared.imports.ImportRef.{ImportRef}
 use Rattle.glk_arena.specs.World.{Package, object_entries, paths_of, file_bytes, package_limit}
 use Rattle.glk_base.specs.Limits.{file_limit}

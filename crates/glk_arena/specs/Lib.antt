@@ -9,7 +9,6 @@ pub mod Imports
 pub mod Stored
 pub mod ImportRefs
 pub mod Tables
-pub mod PackageRefusal
 pub mod Waves
 pub mod LoadParts
 pub mod WaveLoop

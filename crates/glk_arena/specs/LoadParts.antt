@@ -16,7 +16,7 @@ use Rattle.glk_arena.specs.declared.config.Config.{Config}
 use Rattle.glk_arena.specs.declared.stored.StoredObject.{StoredObject}
 use Rattle.glk_arena.specs.ConfigViews.{file_in}
 use Rattle.glk_arena.specs.Stored.{stored_entry}
-use Rattle.glk_arena.specs.PackageRefusal.{refusal_of, IsRefusedFor}
+use Rattle.glk_package.specs.PackageRefusal.{refusal_of, IsRefusedFor}
 use Rattle.glk_arena.specs.World.{Package, file_bytes}
 use Rattle.glk_arena.specs.Imports.{Import, imports_of, fingerprint_in, is_compared, is_unequal}
 use Rattle.glk_arena.specs.Waves.{LoadInputs, Reads, FormatsAfter, first_uses, Wave, IsLoad, IsPackagePath, IsOfPackages, is_missing, file_of}

@@ -14,7 +14,7 @@ use Rattle.glk_package.specs.ObjectEntry.{ObjectEntry}
 use Rattle.glk_package.specs.Package.{PackageFile}
 use Rattle.glk_package.specs.ObjectRules.{ObjectRules, uniform_rules, rules_after}
 use Rattle.glk_package.specs.declared.refusal.PackageBad.{PackageBad}
-use Rattle.glk_arena.specs.PackageRefusal.{refusal_of}
+use Rattle.glk_package.specs.PackageRefusal.{refusal_of}
 use Rattle.glk_arena.specs.World.{Package, paths_of, object_entries, file_bytes, package_limit}
 use Rattle.glk_base.specs.Limits.{file_limit}
 use Rattle.glk_arena.specs.Imports.{Import, imports_of, is_among, unsafe_package, fingerprint_in, first_unequal}

@@ -11,7 +11,6 @@ mod packages;
 mod parse_packages;
 mod paths;
 mod read_files;
-mod refusal;
 mod stored;
 #[cfg(test)]
 mod tests;
@@ -22,5 +21,4 @@ pub use config::Config;
 pub use laws::{one_file, one_load, some_config, some_load};
 pub use loaded::Loaded;
 pub use packages::PackageTable;
-pub use refusal::package_refusal;
 pub use waves::load_waves;

@@ -7,17 +7,16 @@ ghost use Rattle.glk_arena.specs.World.{object_entries, file_bytes, package_limi
 ghost use Rattle.glk_base.specs.Limits.{file_limit};
 ghost use Rattle.glk_arena.specs.Stored.{AreStored, IsWhole, stored_entry};
 ghost use Rattle.glk_arena.specs.LoadParts.{inputs_of, AppendsWave, HoldsStored, RefusesFormats, IsFormatRefusal, IsPackageIn};
-ghost use Rattle.glk_arena.specs.PackageRefusal.{IsRefusedFor};
+ghost use Rattle.glk_package.specs.PackageRefusal.{IsRefusedFor};
 
 use crate::config::Config;
 use crate::list::PackageList;
 use crate::paths::PackagePaths;
 use crate::read_files::file_of;
-use crate::refusal::package_refusal;
 use crate::stored::{LoadedPackage, StoredObject, store_objects};
 use glk_base::{Fault, Text};
 use glk_cause::Cause;
-use glk_package::{ObjectRules, objects};
+use glk_package::{ObjectRules, objects, package_refusal};
 use std::alloc::Global;
 use std::collections::VecDeque;
 

@@ -5,3 +5,4 @@ pub mod ObjectRules
 pub mod Members
 pub mod Package
 pub mod NoMismatch
+pub mod PackageRefusal

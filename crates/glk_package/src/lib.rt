@@ -6,6 +6,7 @@
 //! without another check.
 #![tactic(auto)]
 
+mod file_refusal;
 mod laws;
 mod object_entry;
 mod object_rules;
@@ -14,6 +15,7 @@ mod refusal;
 #[cfg(test)]
 mod tests;
 
+pub use file_refusal::package_refusal;
 pub use laws::{no_mismatch, one_package, some_package};
 pub use object_entry::ObjectEntry;
 pub use object_rules::{HeaderRule, ObjectRules, WidthRule};

@@ -12,7 +12,7 @@ use Rattle.glk_cause.specs.Chain.{Then, IsOne}
 use Rattle.glk_cause.specs.Reading.{IsWhole, AnswersByReading}
 use Rattle.glk_cause.specs.Printing.{AnswersByPrinting}
 use Rattle.glk_package.specs.declared.refusal.PackageBad.{PackageBad}
-use Rattle.glk_package.specs.declared.refusal.PackageBad.TheVariants as bad
+use Rattle.glk_package.specs.PackageRefusal.{refusal_of}
 use Rattle.glk_tools.specs.PackageText.{IsPackageText}
 use Rattle.glk_tools.specs.MustAnswer.{MustAnswer}
 use Rattle.glk_tools.specs.Stdout.{stdout}
@@ -20,12 +20,6 @@ use Rattle.glk_tools.specs.Stdout.{stdout}
 -- how long a package file may be
 abbrev pub package_limit : ℕ
 package_limit = 2 ^ 28
-
--- the refusal of the package file at a path for its first fault
-abbrev pub refusal_of : List ℕ → PackageBad → Cause
-refusal_of path (bad.NotGo member) = cause.NotGoObject path member
-refusal_of path (bad.HeaderMismatch member first here) = cause.HeaderLine path member first here
-refusal_of path (bad.Malformed member family rule offset) = cause.Malformed path member family rule offset
 
 -- what the bytes of the package file at a path give: the text of its objects, or its refusal
 abbrev pub IsTextOf : List ℕ → List ℕ → Result (List ℕ) Cause → Type 0

@@ -3,7 +3,7 @@ use Rattle.std.specs.List.{sum_by}
 use Rattle.std.proofs.lemmas.List.{length_push}
 use Rattle.std.proofs.lemmas.List.Sums.{sum_by-cons, sum_by_push}
 use Rattle.glk_package.specs.ObjectRules.{uniform_rules, rules_after}
-use Rattle.glk_arena.specs.PackageRefusal.{IsRefusedFor}
+use Rattle.glk_package.specs.PackageRefusal.{IsRefusedFor}
 use Rattle.glk_arena.specs.World.{Package, object_entries, file_bytes}
 use Rattle.glk_arena.specs.Waves.{file_of}
 use Rattle.glk_arena.specs.LoadParts.{inputs_of, IsPackageIn, IsFormatRefusal}

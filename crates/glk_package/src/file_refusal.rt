@@ -1,9 +1,9 @@
 // A package file's fault as a cause.
-ghost use Rattle.glk_arena.specs.PackageRefusal.{IsFaultOfFile};
+ghost use Rattle.glk_package.specs.PackageRefusal.{IsFaultOfFile};
 
+use crate::refusal::PackageBad;
 use glk_base::{Fault, Text};
 use glk_cause::Cause;
-use glk_package::PackageBad;
 use std::alloc::Global;
 
 /// The refusal of the package file at a path for its first fault, or out of memory.
