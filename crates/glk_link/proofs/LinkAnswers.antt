@@ -1,6 +1,6 @@
 -- What the passes of a link say of its answer.
-use Rattle.std.proofs.Common.{◌≡◌, inl, inr, ℕ, List, Option, Some, None, refl, sym, ◌∙◌, ap, subst, Ok, Err}
-use Rattle.std.specs.Prelude.{Result, IsSome, ⊤}
+use Rattle.std.proofs.Common.{◌≡◌, inl, inr, ℕ, List, Option, Some, None, refl, sym, ap, subst, Ok, Err}
+use Rattle.std.specs.Prelude.{Result, IsSome}
 use Rattle.glk_base.specs.declared.fault.Fault.{Fault}
 use Rattle.glk_base.specs.declared.fault.Fault.TheVariants as fault
 use Rattle.glk_io.specs.Contents.{Contents, IfKnown}
@@ -21,8 +21,8 @@ use Rattle.glk_link.specs.declared.options.LinkOptions.{LinkOptions}
 use Rattle.glk_link.specs.declared.options.Report.{Report}
 use Rattle.glk_link.specs.Options.{AsksUnbuilt}
 use Rattle.glk_link.specs.Config.{Listing, IsConfigured, IsOfConfig}
-use Rattle.glk_link.specs.Passes.{Linked, LinksPackages, load_inputs, IsLink, report_of}
-use Rattle.glk_link.specs.Answers.{IsPackageFile, MayRefuse, LinkAnswer, MustAnswer, AnswersUnlessIoFails}
+use Rattle.glk_link.specs.Passes.{Linked, LinksPackages, load_inputs, LoadsPackages, IsLink, report_of}
+use Rattle.glk_link.specs.Answers.{IsPackageFile, MayRefuse, MayRefuseToLoad, PackagesAnswer, LinkAnswer, MustAnswer, AnswersUnlessIoFails}
 use Rattle.glk_link.proofs.LinkOnce.{one_link}
 
 -- The table of answers is complete.
@@ -67,7 +67,10 @@ module _ (one : IsOneLoad) (old new : FileState) (opts : LinkOptions) where
 -- What is asked for is not supported.
 
 pub unsupported : (state : FileState) (opts : LinkOptions) → AsksUnbuilt opts → LinkAnswer state state opts (Err (fault.Bad (cause.NotYet form.Flag)))
-unsupported state opts asks = (asks, (refl, always state.contents (λ held. stops (cause.NotYet form.Flag) (fails (λ built. built asks)))))
+unsupported state opts asks = (asks, (refl, always state.contents (λ held. stops (cause.NotYet form.Flag) (stops (cause.NotYet form.Flag) (fails (λ built. built asks))))))
+
+pub unsupported_load : (state : FileState) (opts : LinkOptions) → AsksUnbuilt opts → PackagesAnswer state state opts (Err (fault.Bad (cause.NotYet form.Flag)))
+unsupported_load state opts asks = (asks, (refl, always state.contents (λ held. stops (cause.NotYet form.Flag) (fails (λ built. built asks)))))
 
 -- Refusals of passes that read.
 
@@ -77,9 +80,25 @@ refused : (old new : FileState) (opts : LinkOptions) (Al : Sort → Type 0) → 
 refused old new opts Al more only e h =
     writing_stopped (MayRefuse old.contents opts) (λ files. IsLink files opts) opts.out (λ (linked : Linked). linked.image) report_of old new Al (λ (l : Linked). l) more only e h
 
+-- the packages are not loaded
+to_link : (before : Option Contents) (opts : LinkOptions) (s : Sort) → MayRefuseToLoad before opts s → MayRefuse before opts s
+to_link before opts (by_writes path count) h = absurd h
+to_link before opts s h = h
+
+pub no_packages : (old new : FileState) (opts : LinkOptions) (e : Fault Cause) → PackagesAnswer old new opts (Err e) → LinkAnswer old new opts (Err e)
+no_packages old new opts e h =
+    refused old new opts (MayRefuseToLoad old.contents opts) (to_link old.contents opts) (λ path count a. a) e
+    (reading_stopped old new (MayRefuseToLoad old.contents opts) (MayRefuseToLoad old.contents opts) (λ files. LoadsPackages files opts) (λ files. IsLink files opts) (λ (w : List Package). w) (λ (l : Linked). l)
+    (λ s a. a) (always old.contents (λ files refusal c. stops refusal c)) e h)
+
+-- what the packages come to, the link does
+pub leads : (old new : FileState) (opts : LinkOptions) (world : List Package) → PackagesAnswer old new opts (Ok world)
+    → FilesUnchanged old new × IfKnown old.contents (λ files. (answer : Result Linked Cause) → LinksPackages opts.entry world answer → IsLink files opts answer)
+leads old new opts world h = (h.0, always_known _ _ old.contents (λ files l answer is. goes_on world answer l is) h.1)
+
 -- the configuration is refused
 module _ (opts : LinkOptions) (built : AsksUnbuilt opts → ⊥) where
-  config_allows : (before : Option Contents) (s : Sort) → IsOfConfig opts.importcfg s → MayRefuse before opts s
+  config_allows : (before : Option Contents) (s : Sort) → IsOfConfig opts.importcfg s → MayRefuseToLoad before opts s
   config_allows before (by_reads path count) h = inl h
   config_allows before (by_writes path count) h = absurd h
   config_allows before (of_file path) h = inl h
@@ -91,13 +110,12 @@ module _ (opts : LinkOptions) (built : AsksUnbuilt opts → ⊥) where
   config_allows before foreign h = absurd h
 
   pub not_configured : {C : Type 0} (view : C → Listing) (old new : FileState) (e : Fault Cause)
-      → AnswersByReading old new (IsOfConfig opts.importcfg) (λ held. IsConfigured held opts.importcfg) view (Err e) → LinkAnswer old new opts (Err e)
+      → AnswersByReading old new (IsOfConfig opts.importcfg) (λ held. IsConfigured held opts.importcfg) view (Err e) → PackagesAnswer old new opts (Err e)
   not_configured view old new e h =
-      refused old new opts (IsOfConfig opts.importcfg) (config_allows old.contents) (λ path count a. a) e
-      (reading_stopped old new (IsOfConfig opts.importcfg) (IsOfConfig opts.importcfg) (λ held. IsConfigured held opts.importcfg) (λ files. IsLink files opts) view (λ (l : Linked). l)
-      (λ s a. a) (always old.contents (λ files refusal c. goes_on opts _ (holds built) (stops refusal c))) e h)
+      reading_stopped old new (IsOfConfig opts.importcfg) (MayRefuseToLoad old.contents opts) (λ held. IsConfigured held opts.importcfg) (λ files. LoadsPackages files opts) view (λ (w : List Package). w)
+      (config_allows old.contents) (always old.contents (λ files refusal c. goes_on opts _ (holds built) (stops refusal c))) e h
 
--- the packages are not loaded
+-- a wave is refused
 module _ (opts : LinkOptions) (built : AsksUnbuilt opts → ⊥) (listed : Listing) (old mid : FileState)
     (bare : opts.importcfg ≡ None → (named : List ℕ) → listed named ≡ None)
     (configured : FilesUnchanged old mid × IfKnown old.contents (λ files. IsConfigured files opts.importcfg (Ok listed))) where
@@ -112,7 +130,7 @@ module _ (opts : LinkOptions) (built : AsksUnbuilt opts → ⊥) (listed : Listi
     listed = always_known _ _ old.contents (λ files c. (listed, c, (l.0, l.1))) configured.1;
   })
 
-  packages_allow : (s : Sort) → IsOfPackages (load_inputs opts listed) s → MayRefuse old.contents opts s
+  packages_allow : (s : Sort) → IsOfPackages (load_inputs opts listed) s → MayRefuseToLoad old.contents opts s
   packages_allow (by_reads path count) h = inr (package_file path h)
   packages_allow (by_writes path count) h = absurd h
   packages_allow (of_file path) h = inr (package_file path h)
@@ -125,20 +143,18 @@ module _ (opts : LinkOptions) (built : AsksUnbuilt opts → ⊥) (listed : Listi
 
   pub not_loaded : (new : FileState) (e : Fault Cause)
       → AnswersByReading {C = List Package} mid new (IsOfPackages (load_inputs opts listed)) (λ files. IsLoad (load_inputs opts listed) files) (λ w. w) (Err e)
-      → LinkAnswer old new opts (Err e)
+      → PackagesAnswer old new opts (Err e)
   not_loaded new e h =
-      refused old new opts (IsOfPackages (load_inputs opts listed)) packages_allow (λ path count a. a) e
-      (reading_stopped old new (IsOfPackages (load_inputs opts listed)) (IsOfPackages (load_inputs opts listed)) (λ files. IsLoad (load_inputs opts listed) files) (λ files. IsLink files opts) (λ (w : List Package). w) (λ (l : Linked). l)
-      (λ s a. a) (always_known _ _ old.contents (λ files c refusal l. goes_on opts _ (holds built) (goes_on listed _ c (stops refusal l))) configured.1) e
-      (reading_on (IsOfPackages (load_inputs opts listed)) (λ files. IsLoad (load_inputs opts listed) files) (λ (w : List Package). w) old mid new configured.0 (Err e) h))
+      reading_stopped old new (IsOfPackages (load_inputs opts listed)) (MayRefuseToLoad old.contents opts) (λ files. IsLoad (load_inputs opts listed) files) (λ files. LoadsPackages files opts) (λ (w : List Package). w) (λ (w : List Package). w)
+      packages_allow (always_known _ _ old.contents (λ files c refusal l. goes_on opts _ (holds built) (goes_on listed _ c l)) configured.1) e
+      (reading_on (IsOfPackages (load_inputs opts listed)) (λ files. IsLoad (load_inputs opts listed) files) (λ (w : List Package). w) old mid new configured.0 (Err e) h)
 
-  -- what the packages come to, the link does
-  pub leads : (new : FileState) (world : List Package)
+  pub packages_loaded : (new : FileState) (world : List Package)
       → AnswersByReading {C = List Package} mid new (IsOfPackages (load_inputs opts listed)) (λ files. IsLoad (load_inputs opts listed) files) (λ w. w) (Ok world)
-      → FilesUnchanged old new × IfKnown old.contents (λ files. (answer : Result Linked Cause) → LinksPackages opts.entry world answer → IsLink files opts answer)
-  leads new world h =
+      → PackagesAnswer old new opts (Ok world)
+  packages_loaded new world h =
       let loaded = reading_on (IsOfPackages (load_inputs opts listed)) (λ files. IsLoad (load_inputs opts listed) files) (λ (w : List Package). w) old mid new configured.0 (Ok world) h in
-      (loaded.0, known _ _ old.contents (always_known _ _ old.contents (λ files c l answer is. goes_on opts _ (holds built) (goes_on listed _ c (goes_on world _ l is))) configured.1) loaded.1)
+      (loaded.0, known _ _ old.contents (always_known _ _ old.contents (λ files c l. goes_on opts _ (holds built) (goes_on listed _ c l)) configured.1) loaded.1)
 
 -- The passes over the packages refuse what they hold together.
 
@@ -148,10 +164,11 @@ IsOfLink refusal = sort_of refusal ≡ of_link
 packages_only : (entry : List ℕ) → RefusesOnly IsOfLink (LinksPackages entry)
 packages_only entry =
     then_only IsOfLink (then_only IsOfLink (demands_only IsOfLink (λ world. refl)) (demands_only IsOfLink (λ world. refl)))
+    (then_only IsOfLink
     (then_only IsOfLink (demands_only IsOfLink (λ world. refl))
     (then_only IsOfLink (then_only IsOfLink (demands_only IsOfLink (λ world. refl)) (gives_only IsOfLink))
-    (then_only IsOfLink (finds_only IsOfLink (λ k refusal u. subst IsOfLink (sym u.refusal_is) refl))
-    (then_only IsOfLink (demands_only IsOfLink (λ k. refl)) (gives_only IsOfLink)))))
+    (finds_only IsOfLink (λ k refusal u. subst IsOfLink (sym u.refusal_is) refl))))
+    (then_only IsOfLink (demands_only IsOfLink (λ k. refl)) (gives_only IsOfLink)))
 
 pub not_linked : {C : Type 0} (opts : LinkOptions) (old new : FileState) (world : List Package) (view : C → Linked) (e : Fault Cause)
     → FilesUnchanged old new × IfKnown old.contents (λ files. (answer : Result Linked Cause) → LinksPackages opts.entry world answer → IsLink files opts answer)

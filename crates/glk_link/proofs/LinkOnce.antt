@@ -18,7 +18,7 @@ use Rattle.glk_link.specs.Plain.{IsPlain}
 use Rattle.glk_link.specs.Reach.{AreKept}
 use Rattle.glk_link.specs.Refusals.{undefined_call}
 use Rattle.glk_link.specs.Built.{IsBuilt}
-use Rattle.glk_link.specs.Passes.{Kept, Linked, IsReach, Reaches, IsUndefined, IsLinkOf, LinksPackages, Configures, load_inputs, IsOneLink, IsOneFirst, IsOneImage}
+use Rattle.glk_link.specs.Passes.{Kept, Linked, IsReach, Reaches, IsUndefined, IsLinkOf, Keeps, LinksPackages, Configures, load_inputs, LoadsPackages, IsOneLink, IsOneFirst, IsOneImage}
 use Rattle.glk_link.proofs.ImageOnce.{kept_once, start_once, image_of_once}
 
 -- The configuration.
@@ -95,23 +95,34 @@ link_once entry k are built m n x y =
 
 -- The chain.
 
+keeps_one : (entry : List ℕ) → IsOne (Keeps entry)
+keeps_one entry world =
+    then_one world (demands_one world) (λ u plain.
+    then_one u (reaches_one entry u (demands_given world u plain).1) (λ k reached. finds_one k (undefined_once k)))
+
+-- what passes all of these is kept
+are_kept_all : (entry : List ℕ) (world : List Package) (k : Kept) → Keeps entry world (Ok k) → AreKept k.world entry k.kept
+are_kept_all entry world k h =
+    let plain = then_given world k h in
+    let reached = then_given plain.0 k plain.2 in
+    let P : Kept → Type 0 = λ n. AreKept n.world entry n.kept in
+    subst P (finds_given reached.0 k reached.2) (are_kept entry plain.0 reached.0 reached.1)
+
 packages_one : (entry : List ℕ) → IsOne (LinksPackages entry)
 packages_one entry world =
     then_one world (then_one world (demands_one world) (λ w few. demands_one w)) (λ v within.
-    then_one v (demands_one v) (λ u plain.
-    then_one u (reaches_one entry u (demands_given v u plain).1) (λ k reached.
-    then_one k (finds_one k (undefined_once k)) (λ l found.
-    then_one l (demands_one l) (λ m placed.
+    then_one v (keeps_one entry v) (λ k kept.
+    then_one k (demands_one k) (λ m placed.
     let P : Kept → Type 0 = λ n. AreKept n.world entry n.kept in
-    let are = subst P (finds_given k l found ∙ (demands_given l m placed).0) (are_kept entry u k reached) in
-    gives_one m (link_once entry m are (demands_given l m placed).1))))))
+    gives_one m (link_once entry m (subst P (demands_given k m placed).0 (are_kept_all entry v k kept)) (demands_given k m placed).1))))
+
+loads_packages_one : IsOneLoad → (files : Contents) → IsOne (LoadsPackages files)
+loads_packages_one one files opts =
+    then_one opts (demands_one opts) (λ o supported.
+    then_one o (configures_one files o) (λ listed configured. one (load_inputs opts listed) files))
 
 pub one_link : IsOneLoad → IsOneLink
-one_link one files opts =
-    then_one opts (demands_one opts) (λ o supported.
-    then_one o (configures_one files o) (λ listed configured.
-    then_one listed (one (load_inputs opts listed) files) (λ world loaded.
-    packages_one opts.entry world)))
+one_link one files opts = then_one opts (loads_packages_one one files opts) (λ world loaded. packages_one opts.entry world)
 
 pub one_first : IsOneLoad → IsOneFirst
 one_first one files opts None None x y = refl

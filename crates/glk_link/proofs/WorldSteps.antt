@@ -1,12 +1,11 @@
 -- What the packages that are loaded say of the world of a link.
 use Rattle.std.proofs.Common.{◌≡◌, ◌<◌, ◌≤◌, ◌+◌, ◌-◌, ◌^◌, ◌++◌, ◌⊎◌, ℕ, zero, suc, List, [], ◌∷◌, length, map, get_or, All, inl, inr, refl, sym, ap, ◌∙◌, subst, arith}
-use Rattle.std.specs.List.{sum_by, Contains, AllPairs}
+use Rattle.std.specs.List.{Contains, AllPairs}
 use Rattle.std.proofs.lemmas.Bool.{cases_lt, cases_order}
 use Rattle.std.proofs.lemmas.List.{map-append, get_or_default}
 use Rattle.std.proofs.lemmas.List.Elements.{All-head, All-tail, All-append, Contains-get_or}
 use Rattle.std.proofs.lemmas.List.Sums.{sum_by-cons}
 use Rattle.glk_obj.specs.Object.{IsObject}
-use Rattle.glk_obj.specs.Records.{symbols}
 use Rattle.glk_package.specs.ObjectEntry.{ObjectEntry, data_bytes}
 use Rattle.glk_arena.specs.World.{Package, objects_of, file_bytes, symbol_count}
 use Rattle.glk_base.specs.Limits.{file_limit}

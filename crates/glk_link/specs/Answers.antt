@@ -9,10 +9,12 @@ use Rattle.glk_cause.specs.declared.cause.Cause.{Cause}
 use Rattle.glk_cause.specs.declared.cause.Cause.TheVariants as cause
 use Rattle.glk_cause.specs.declared.cause.Form.TheVariants as form
 use Rattle.glk_cause.specs.Sorts.{Sort, by_reads, by_writes, of_file, of_package, of_input, of_config, of_options, of_link, foreign}
+use Rattle.glk_cause.specs.Reading.{AnswersByReading}
 use Rattle.glk_cause.specs.Writing.{AnswersByWriting}
+use Rattle.glk_arena.specs.World.{Package}
 use Rattle.glk_link.specs.Options.{AsksUnbuilt}
 use Rattle.glk_link.specs.Config.{Listing, IsConfigured}
-use Rattle.glk_link.specs.Passes.{Linked, IsLink, report_of}
+use Rattle.glk_link.specs.Passes.{Linked, LoadsPackages, IsLink, report_of}
 use Rattle.glk_link.specs.declared.options.LinkOptions.{LinkOptions}
 use Rattle.glk_link.specs.declared.options.Report.{Report}
 
@@ -41,6 +43,17 @@ MayRefuse before opts (of_config path) = opts.importcfg ≡ Some path
 MayRefuse before opts of_options = AsksUnbuilt opts
 MayRefuse before opts of_link = ⊤
 MayRefuse before opts foreign = ⊥
+
+-- the same where no file is written
+abbrev pub MayRefuseToLoad : Option Contents → LinkOptions → Sort → Type 0
+MayRefuseToLoad before opts (by_writes path count) = ⊥
+MayRefuseToLoad before opts sort = MayRefuse before opts sort
+
+-- The answers of a call that loads the packages of a link: known files have these packages, or this first refusal, and
+-- files are as before; a count of reads rises in the answer alone that reports it.
+abbrev pub PackagesAnswer : FileState → FileState → LinkOptions → Result (List Package) (Fault Cause) → Type 0
+PackagesAnswer old new opts result =
+    AnswersByReading old new (MayRefuseToLoad old.contents opts) (λ files. LoadsPackages files opts) (λ world. world) result
 
 -- The answers of a link. Known files are linked: the output file is the image, and the report is of what was linked, or
 -- the first refusal is answered. A count rises in the answer alone that reports it.

@@ -80,9 +80,12 @@ pub record IsLinkOf (k : Kept) (linked : Linked) : Type 0 where
 abbrev pub Images : Kept → Result Linked Cause → Type 0
 Images = Gives IsLinkOf
 
+-- what is kept of packages within the limits, or the first refusal on the way
+abbrev pub Keeps : List ℕ → List Package → Result Kept Cause → Type 0
+Keeps entry = Then HasPlainObjects (Then (Reaches entry) FindsCallees)
+
 abbrev pub LinksPackages : List ℕ → List Package → Result Linked Cause → Type 0
-LinksPackages entry =
-    Then IsWithinLimits (Then HasPlainObjects (Then (Reaches entry) (Then FindsCallees (Then HasPlacedSymbols Images))))
+LinksPackages entry = Then IsWithinLimits (Then (Keeps entry) (Then HasPlacedSymbols Images))
 
 -- The passes over options and files.
 
@@ -98,9 +101,13 @@ load_inputs opts listed = record { main = opts.main; listed = listed }
 abbrev pub Loads : Contents → LinkOptions → Listing → Result (List Package) Cause → Type 0
 Loads files opts listed = IsLoad (load_inputs opts listed) files
 
+-- what is loaded: the packages of a link, or the first refusal on the way
+abbrev pub LoadsPackages : Contents → LinkOptions → Result (List Package) Cause → Type 0
+LoadsPackages files opts = Then IsSupported (Then (Configures files) (Loads files opts)) opts
+
 -- what a link comes to: what is linked, or the first refusal
 abbrev pub IsLink : Contents → LinkOptions → Result Linked Cause → Type 0
-IsLink files opts = Then IsSupported (Then (Configures files) (Then (Loads files opts) (LinksPackages opts.entry))) opts
+IsLink files opts = Then (LoadsPackages files) (LinksPackages opts.entry) opts
 
 -- the first refusal, or none; and the image
 abbrev pub FirstRefusal : Contents → LinkOptions → Option Cause → Type 0
@@ -118,6 +125,10 @@ report_of linked = record {
   kept = length linked.kept;
   image = length linked.image;
 }
+
+-- There is an answer for all known files: an image, or a first refusal. A law that a public function promises.
+abbrev pub IsSomeFirst : Type 0
+IsSomeFirst = (files : Contents) (opts : LinkOptions) → (first : Option Cause) × FirstRefusal files opts first
 
 -- Laws that public functions promise: there is one answer of a link, so one first refusal and one image.
 abbrev pub IsOneLink : Type 0

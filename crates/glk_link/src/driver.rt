@@ -1,12 +1,12 @@
 // A link, pass by pass.
 ghost use Rattle.std.specs.Prelude.{◌≡◌, ◌≤◌};
 ghost use Rattle.glk_link.specs.Options.{AsksUnbuilt};
-ghost use Rattle.glk_link.specs.Answers.{IsUnsupported, LinkAnswer, AnswersUnlessIoFails};
+ghost use Rattle.glk_link.specs.Answers.{IsUnsupported, PackagesAnswer, LinkAnswer, AnswersUnlessIoFails};
 
 use crate::link_packages::link_packages;
 use crate::options::{LinkOptions, Report};
 use crate::read_config::{asks_unbuilt, read_config};
-use glk_arena::{load_waves, one_load};
+use glk_arena::{Loaded, load_waves, one_load};
 use glk_base::Fault;
 use glk_cause::{Cause, Form, write_named};
 use glk_io::{Files, Gate};
@@ -45,6 +45,39 @@ pub fn link<R: Threads + Sync, F: Files, G: Gate>(
     link_files(alloc, opts, files)
 }
 
+/// Loads the packages of a link: the file that the options name, and what it needs of the packages
+/// that the configuration lists, in load order. No file is changed.
+///
+/// # Errors
+/// The first refusal of the passes up to there, in their order: then no count rose. `ReadFault`, with
+/// a count of reads that rose. Out of memory: no count rose.
+pub fn load<F: Files>(
+    alloc: Global,
+    opts: &LinkOptions,
+    files: &mut F,
+) -> Result<Loaded, Fault<Cause>>
+    ensures { PackagesAnswer (F.state files.old) (F.state files.new) opts.now result }
+{
+    if asks_unbuilt(opts) {
+        return Err(Fault::Bad(Cause::NotYet { form: Form::Flag }));
+    }
+    load_packages(alloc, opts, files)
+}
+
+// The packages of a link whose options are supported.
+fn load_packages<F: Files>(
+    alloc: Global,
+    opts: &LinkOptions,
+    files: &mut F,
+) -> Result<Loaded, Fault<Cause>>
+    requires { AsksUnbuilt opts.now → ⊥ }
+    ensures { PackagesAnswer (F.state files.old) (F.state files.new) opts.now result }
+{
+    let config = read_config(alloc, opts, files)?;
+    let loaded = load_waves(alloc, opts.main.as_str(), &config, files)?;
+    Ok(loaded)
+}
+
 // The passes of a link whose options are supported.
 fn link_files<F: Files>(
     alloc: Global,
@@ -54,8 +87,7 @@ fn link_files<F: Files>(
     requires { AsksUnbuilt opts.now → ⊥ }
     ensures { LinkAnswer (F.state files.old) (F.state files.new) opts.now result }
 {
-    let config = read_config(alloc, opts, files)?;
-    let loaded = load_waves(alloc, opts.main.as_str(), &config, files)?;
+    let loaded = load_packages(alloc, opts, files)?;
     let output = link_packages(alloc, &loaded, opts.entry.as_str().as_bytes())?;
     write_named(alloc, opts.out.as_str(), &output.image, files)?;
     Ok(output.report)

@@ -9,14 +9,14 @@ ghost use Rattle.glk_link.specs.Plans.{linked_bytes, AreFewBytes, AreChosen, IsP
 ghost use Rattle.glk_link.specs.Image.{IsImageOf};
 ghost use Rattle.glk_link.specs.Reach.{AreKept, Misses};
 ghost use Rattle.glk_link.specs.Refusals.{rows_taken, undefined_call};
-ghost use Rattle.glk_link.specs.Passes.{IsWithinLimits, HasPlainObjects, Reaches, FindsCallees, HasPlacedSymbols, LinksPackages, report_of};
+ghost use Rattle.glk_link.specs.Passes.{IsWithinLimits, HasPlainObjects, Reaches, FindsCallees, HasPlacedSymbols, Keeps, LinksPackages, report_of};
 ghost use Rattle.glk_link.specs.Outputs.{kept_of, linked_of, HasReport};
 
 use crate::built::first_unbuilt;
 use crate::counts::definitions_of;
 use crate::entry::start_of;
 use crate::image::image_with;
-use crate::kept::kept_list;
+use crate::kept_rows::kept_list;
 use crate::missing::{first_missing, missing_name};
 use crate::options::Report;
 use crate::placing::{by_definition, place};
@@ -67,11 +67,8 @@ pub(crate) fn link_packages(
     ensures linked { Answers (LinksPackages entry.now loaded.now) (linked_of loaded.now) result }
     ensures report { IfOk result (HasReport loaded.now) }
 {
-    check_limits(loaded)?;
-    let world = World::new(alloc, loaded)?;
-    check_objects(alloc, &world)?;
-    let reached = reach_from(alloc, &world, entry)?;
-    check_calls(alloc, &world, &reached)?;
+    let world = world_of(alloc, loaded)?;
+    let reached = kept(alloc, &world, entry)?;
     check_symbols(alloc, &world, &reached)?;
     let image = image_of(alloc, &world, reached.start, &reached.kept)?;
     let report = report(&world, &reached.kept, &image);
@@ -80,6 +77,39 @@ pub(crate) fn link_packages(
         image,
         report,
     })
+}
+
+/// The world of the packages that are loaded, where there are few enough rows and the files are short
+/// enough.
+///
+/// # Errors
+/// `TooLarge`, `NotYet`, or out of memory.
+pub fn world_of(alloc: Global, loaded: &Loaded) -> Result<World<'_>, Fault<Cause>>
+    ensures within { Answers (IsWithinLimits loaded.now) (λ world. world) result }
+    ensures same { IfOk result (λ world. world ≡ loaded.now) }
+    ensures rows { IfOk result (λ world. rows_taken world ≤ row_limit) }
+    ensures bytes { IfOk result AreFewBytes }
+{
+    check_limits(loaded)?;
+    let world = World::new(alloc, loaded)?;
+    Ok(world)
+}
+
+/// What is kept of a world, where all of its objects are such as golink links and all that is called
+/// has a definition.
+///
+/// # Errors
+/// The first refusal of these passes, or out of memory.
+pub fn kept(alloc: Global, world: &World<'_>, entry: &[u8]) -> Result<Reached, Fault<Cause>>
+    ensures keeps { Answers (Keeps entry.now world.now) (kept_of world.now) result }
+    ensures start { IfOk result (λ reached. Contains reached.kept.items reached.start) }
+    ensures kept { IfOk result (λ reached. AreKept world.now entry.now reached.kept.items) }
+    ensures range { IfOk result (λ reached. All (IsDefinition world.now) reached.kept.items) }
+{
+    check_objects(alloc, world)?;
+    let reached = reach_from(alloc, world, entry)?;
+    check_calls(alloc, world, &reached)?;
+    Ok(reached)
 }
 
 // There are few enough rows, and the files are short enough.

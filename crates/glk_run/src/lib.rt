@@ -7,6 +7,8 @@ mod cmd_mkobj;
 mod help;
 mod program;
 mod stdout;
+#[cfg(test)]
+mod tests;
 
 pub use glk_messages::{Outcome, report};
 pub use program::run;
