@@ -27,3 +27,4 @@ pub mod StageForms
 pub mod TextForms
 pub mod ObjectForms
 pub mod OneObject
+pub mod CanonicalLines

@@ -3,6 +3,10 @@
 use Rattle.std.specs.Prelude.{◌≡◌, ◌≤◌, ◌<◌, ◌^◌, ◌↔◌, ℕ, ℤ, List, length, Ok, Err}
 use Rattle.glk_obj.specs.declared.records.SymRef.{SymRef}
 use Rattle.glk_objdesc.specs.declared.desc.ObjDesc.{ObjDesc}
+use Rattle.glk_objdesc.specs.Printable.{IsPrintable}
+use Rattle.glk_objdesc.specs.Typed.{IsTyped}
+use Rattle.glk_objtext.specs.Bytes.{HasBytes}
+use Rattle.glk_objtext.specs.CanonicalText.{canonical_text}
 use Rattle.glk_objtext.specs.Fields.{fields}
 use Rattle.glk_objtext.specs.Forms.{HasFields, IsNumber, IsSigned, IsOctets, IsSized, IsReference, IsString}
 use Rattle.glk_objtext.specs.Numbers.{number_of, signed_of}
@@ -41,3 +45,8 @@ BadLinesAreThose = (text : List ℕ) (bad : TextBad) → (read_text text ≡ Err
 
 abbrev pub DescriptionsAreThose : Type 0
 DescriptionsAreThose = (text : List ℕ) (d : ObjDesc) → (read_text text ≡ Ok d) ↔ Spells text d
+
+-- The canonical text of a printable description spells the description, where its numbers are within
+-- their types and its strings are of bytes, as those of each value are.
+abbrev pub CanonicalTextsSpell : Type 0
+CanonicalTextsSpell = (d : ObjDesc) → IsPrintable d → IsTyped d → HasBytes d → Spells (canonical_text d) d

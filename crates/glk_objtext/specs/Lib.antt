@@ -19,3 +19,4 @@ pub mod Kinds
 pub mod Entries
 pub mod Rules
 pub mod Spelled
+pub mod CanonicalText

@@ -2,7 +2,7 @@
 ghost use Rattle.std.specs.Prelude.{◌≡◌, Ok};
 ghost use Rattle.glk_objdesc.specs.Printable.{IsPrintable};
 ghost use Rattle.glk_objtext.specs.Laws.{NumbersReadBack, SignedReadBack, OctetsReadBack, ReferencesReadBack, StringsReadBack, TextsReadBack};
-ghost use Rattle.glk_objtext.specs.FormLaws.{BadLinesAreThose, DescriptionsAreThose, FieldsAreThose, NumbersAreThose, SignedAreThose, OctetsAreThose, SizedAreThose, ReferencesAreThose, StringsAreThose};
+ghost use Rattle.glk_objtext.specs.FormLaws.{BadLinesAreThose, CanonicalTextsSpell, DescriptionsAreThose, FieldsAreThose, NumbersAreThose, SignedAreThose, OctetsAreThose, SizedAreThose, ReferencesAreThose, StringsAreThose};
 ghost use Rattle.glk_objtext.specs.Reading.{read_text};
 ghost use Rattle.glk_objtext.specs.Text.{text_of};
 
@@ -52,8 +52,10 @@ pub fn fields_are_spelled()
 
 /// A text reads as the description that it spells by the text form, and as nothing else; it is refused
 /// for the first line that breaks a rule of that form, with the least rule that it breaks, and for
-/// nothing else. The function does nothing; its clauses are the law.
+/// nothing else. The canonical text of a printable description spells it. The function does nothing;
+/// its clauses are the law.
 pub fn texts_are_spelled()
     ensures descriptions { DescriptionsAreThose }
     ensures refusals { BadLinesAreThose }
+    ensures canonical { CanonicalTextsSpell }
 {}

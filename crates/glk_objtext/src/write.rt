@@ -1,6 +1,7 @@
 // Writing a description's canonical text.
 ghost use Rattle.std.specs.Prelude.{◌≡◌, ◌++◌, ◌∷◌, [], map, OnOk, IfOk};
 ghost use Rattle.std.specs.List.{flat_map};
+ghost use Rattle.glk_objtext.specs.CanonicalText.{canonical_text};
 ghost use Rattle.glk_objtext.specs.Numbers.{number_text, signed_text};
 ghost use Rattle.glk_objtext.specs.Octets.{octets_text};
 ghost use Rattle.glk_objtext.specs.Strings.{string_text};
@@ -334,7 +335,8 @@ fn push_defs(
 /// # Errors
 /// `OutOfMemory`.
 pub fn print(alloc: Global, d: &ObjDesc) -> Result<Vec<u8>, OutOfMemory>
-    ensures { IfOk result (λ text. text.items ≡ text_of d.now) }
+    ensures canonical { IfOk result (λ text. text.items ≡ canonical_text d.now) }
+    ensures lines { IfOk result (λ text. text.items ≡ text_of d.now) }
 {
     let mut out = Vec::new(alloc);
     push_header(alloc, &mut out, d)?;
