@@ -13,6 +13,7 @@ use Rattle.glk_package.specs.declared.refusal.PackageBad.{PackageBad}
 use Rattle.glk_package.specs.ObjectRules.{ObjectRules}
 use Rattle.glk_package.specs.Package.{PackageFile}
 use Rattle.glk_arena.specs.declared.config.Config.{Config}
+use Rattle.glk_arena.specs.declared.loader.Loader.{Loader}
 use Rattle.glk_arena.specs.declared.stored.StoredObject.{StoredObject}
 use Rattle.glk_arena.specs.ConfigViews.{file_in}
 use Rattle.glk_arena.specs.Stored.{stored_entry}
@@ -24,6 +25,10 @@ use Rattle.glk_arena.specs.Waves.{LoadInputs, Reads, FormatsAfter, first_uses, W
 -- what a load is of, with this main file and configuration
 abbrev pub inputs_of : List ℕ → Config → LoadInputs
 inputs_of main config = record { main = main; listed = file_in config }
+
+-- the same of a call
+abbrev pub inputs_by : Loader → LoadInputs
+inputs_by loader = inputs_of loader.main.now loader.config.now
 
 -- a path's file is the main file, or listed
 abbrev pub HasFile : LoadInputs → List ℕ → Type 0

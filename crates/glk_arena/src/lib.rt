@@ -7,6 +7,7 @@ mod imports;
 mod laws;
 mod list;
 mod loaded;
+mod loader;
 mod packages;
 mod parse_packages;
 mod paths;

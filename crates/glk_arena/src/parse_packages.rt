@@ -6,11 +6,11 @@ ghost use Rattle.glk_package.specs.Package.{PackageFile};
 ghost use Rattle.glk_arena.specs.World.{object_entries, file_bytes, package_limit};
 ghost use Rattle.glk_base.specs.Limits.{file_limit};
 ghost use Rattle.glk_arena.specs.Stored.{AreStored, IsWhole, stored_entry};
-ghost use Rattle.glk_arena.specs.LoadParts.{inputs_of, AppendsWave, HoldsStored, RefusesFormats, IsFormatRefusal, IsPackageIn};
+ghost use Rattle.glk_arena.specs.LoadParts.{inputs_by, AppendsWave, HoldsStored, RefusesFormats, IsFormatRefusal, IsPackageIn};
 ghost use Rattle.glk_package.specs.PackageRefusal.{IsRefusedFor};
 
-use crate::config::Config;
 use crate::list::PackageList;
+use crate::loader::Loader;
 use crate::paths::PackagePaths;
 use crate::read_files::file_of;
 use crate::stored::{LoadedPackage, StoredObject, store_objects};
@@ -66,8 +66,7 @@ fn load_package(
 // whose files these are.
 pub(crate) fn append_wave(
     alloc: Global,
-    main: &str,
-    config: &Config,
+    loader: Loader<'_>,
     names: &PackagePaths,
     earlier: PackageList,
     files: VecDeque<Text>,
@@ -75,15 +74,15 @@ pub(crate) fn append_wave(
     requires all { length earlier + length files.items ≡ length names.now }
     requires few { length names.now ≤ package_limit }
     requires small { file_bytes earlier + sum_by length files.items ≤ file_limit }
-    ensures ok { IfOk result (AppendsWave (inputs_of main.now config.now) earlier names.now files.items) }
+    ensures ok { IfOk result (AppendsWave (inputs_by loader.entry) earlier names.now files.items) }
     ensures err { IfErr result
-        (RefusesFormats (inputs_of main.now config.now) earlier names.now files.items) }
+        (RefusesFormats (inputs_by loader.entry) earlier names.now files.items) }
 {
     let mut list = earlier;
     let mut rest = files;
     while let Some(file) = rest.pop_front() {
         let name = names.get(list.packages() as usize);
-        let path = file_of(main, config, name).as_bytes();
+        let path = file_of(loader, name).as_bytes();
         match load_package(alloc, list.rules(), name, path, file) {
             Ok(package) => list = list.push(package)?,
             Err(fault) => return Err(fault),

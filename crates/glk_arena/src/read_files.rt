@@ -3,9 +3,9 @@ ghost use Rattle.std.specs.Prelude.{◌≡◌, ◌≤◌, ◌+◌, length, drop,
 ghost use Rattle.std.specs.List.{sum_by};
 ghost use Rattle.glk_base.specs.Limits.{file_limit};
 ghost use Rattle.glk_arena.specs.Waves.{file_of};
-ghost use Rattle.glk_arena.specs.LoadParts.{inputs_of, HasFile, ReadsPaths};
+ghost use Rattle.glk_arena.specs.LoadParts.{inputs_by, HasFile, ReadsPaths};
 
-use crate::config::Config;
+use crate::loader::Loader;
 use crate::paths::PackagePaths;
 use glk_base::{FILE_LIMIT, Fault, Text};
 use glk_cause::{Cause, read_named};
@@ -17,13 +17,13 @@ use std::collections::VecDeque;
 pub(crate) const MAIN: &[u8] = b"main";
 
 // Where a package is.
-pub(crate) fn file_of<'a>(main: &'a str, config: &'a Config, path: &[u8]) -> &'a str
-    ensures { result.now ≡ file_of (inputs_of main.now config.now) path.now }
+pub(crate) fn file_of<'a>(loader: Loader<'a>, path: &[u8]) -> &'a str
+    ensures { result.now ≡ file_of (inputs_by loader.entry) path.now }
 {
     if path == MAIN {
-        return main;
+        return loader.main;
     }
-    match config.file_of(path) {
+    match loader.config.file_of(path) {
         Some(file) => file,
         None => "",
     }
@@ -32,8 +32,7 @@ pub(crate) fn file_of<'a>(main: &'a str, config: &'a Config, path: &[u8]) -> &'a
 // Reads the files of the paths from `from` on, which have at most `limit` bytes together.
 pub(crate) fn read_wave<F: Files>(
     alloc: Global,
-    main: &str,
-    config: &Config,
+    loader: Loader<'_>,
     names: &PackagePaths,
     from: usize,
     limit: u64,
@@ -41,8 +40,8 @@ pub(crate) fn read_wave<F: Files>(
 ) -> Result<VecDeque<Text>, Fault<Cause>>
     requires from { from ≤ length names.now }
     requires limit { limit ≤ file_limit }
-    requires files { All (HasFile (inputs_of main.now config.now)) names.now }
-    ensures reads { let inputs = inputs_of main.now config.now in let paths = drop from names.now in
+    requires files { All (HasFile (inputs_by loader)) names.now }
+    ensures reads { let inputs = inputs_by loader.entry in let paths = drop from names.now in
         ReadsPaths (F.state files.old) (F.state files.new) inputs limit paths (λ wave. wave.items) result }
     ensures all { IfOk result (λ wave. from + length wave.items ≡ length names.now) }
     ensures small { IfOk result (λ wave. sum_by length wave.items ≤ limit) }
@@ -50,7 +49,7 @@ pub(crate) fn read_wave<F: Files>(
     let mut wave = VecDeque::new(alloc);
     let mut left = limit;
     for i in from..names.len() {
-        let path = file_of(main, config, names.get(i));
+        let path = file_of(loader, names.get(i));
         let file = read_named(alloc, path, left, FILE_LIMIT, files)?;
         left -= file.as_bytes().len() as u64;
         wave.push_back(file)?;

@@ -8,7 +8,7 @@ ghost use Rattle.glk_base.specs.Limits.{file_limit};
 ghost use Rattle.glk_arena.specs.Imports.{imports_of};
 ghost use Rattle.glk_arena.specs.ImportRefs.{AreImportsOf};
 ghost use Rattle.glk_arena.specs.Waves.{first_wave};
-ghost use Rattle.glk_arena.specs.LoadParts.{inputs_of, HasFile, LoadsFiles, RefusesFiles, RefusesLoad, LoadAnswer, import_refusal_of};
+ghost use Rattle.glk_arena.specs.LoadParts.{inputs_of, inputs_by, HasFile, LoadsFiles, RefusesFiles, RefusesLoad, LoadAnswer, import_refusal_of};
 ghost use Rattle.glk_arena.specs.WaveLoop.{IsLoading, IsWaveOf};
 
 use crate::config::Config;
@@ -17,6 +17,7 @@ use crate::imports::{
 };
 use crate::list::PackageList;
 use crate::loaded::Loaded;
+use crate::loader::Loader;
 use crate::packages::PackageTable;
 use crate::parse_packages::append_wave;
 use crate::paths::PackagePaths;
@@ -51,25 +52,24 @@ fn first_names(alloc: Global, config: &Config) -> Result<PackagePaths, OutOfMemo
 // are checked.
 fn load_files<F: Files>(
     alloc: Global,
-    main: &str,
-    config: &Config,
+    loader: Loader<'_>,
     names: &PackagePaths,
     earlier: PackageList,
     files: &mut F,
 ) -> Result<PackageList, Fault<Cause>>
     requires some { length earlier ≤ length names.now }
     requires few { length names.now ≤ package_limit }
-    requires files { All (HasFile (inputs_of main.now config.now)) names.now }
+    requires files { All (HasFile (inputs_by loader)) names.now }
     ensures ok { IfOk result
-        (LoadsFiles (F.state files.old) (inputs_of main.now config.now) earlier names.now) }
+        (LoadsFiles (F.state files.old) (inputs_by loader.entry) earlier names.now) }
     ensures same { OnOk result (FilesUnchanged (F.state files.old) (F.state files.new)) }
     ensures err { IfErr result
-        (RefusesFiles (F.state files.old) (F.state files.new) (inputs_of main.now config.now) earlier names.now) }
+        (RefusesFiles (F.state files.old) (F.state files.new) (inputs_by loader.entry) earlier names.now) }
 {
     let from = earlier.packages() as usize;
     let left = FILE_LIMIT - earlier.bytes();
-    let wave = read_wave(alloc, main, config, names, from, left, files)?;
-    let now = append_wave(alloc, main, config, names, earlier, wave)?;
+    let wave = read_wave(alloc, loader, names, from, left, files)?;
+    let now = append_wave(alloc, loader, names, earlier, wave)?;
     Ok(now)
 }
 
@@ -138,8 +138,7 @@ fn with_table(alloc: Global, list: PackageList) -> Result<Loaded, OutOfMemory>
 // before `compared` were compared before the last wave.
 fn one_wave<F: Files>(
     alloc: Global,
-    main: &str,
-    config: &Config,
+    loader: Loader<'_>,
     names: &mut PackagePaths,
     list: PackageList,
     refs: &mut Vec<ImportRef>,
@@ -147,18 +146,18 @@ fn one_wave<F: Files>(
     files: &mut F,
 ) -> Result<PackageList, Fault<Cause>>
     requires { let known = (F.state files.old).contents in
-        IsLoading (inputs_of main.now config.now) known names.old list refs.old.items compared }
+        IsLoading (inputs_by loader) known names.old list refs.old.items compared }
     ensures ok { let known = (F.state files.old).contents in let before = length refs.old.items in
-        IfOk result (IsWaveOf (inputs_of main.now config.now) known names.old list before names.new refs.new.items) }
+        IfOk result (IsWaveOf (inputs_by loader.entry) known names.old list before names.new refs.new.items) }
     ensures same { OnOk result (FilesUnchanged (F.state files.old) (F.state files.new)) }
     ensures err { IfErr result
-        (RefusesLoad (F.state files.old) (F.state files.new) (inputs_of main.now config.now)) }
+        (RefusesLoad (F.state files.old) (F.state files.new) (inputs_by loader.entry)) }
 {
     let earlier = list.packages() as usize;
     let known = refs.len();
-    let now = load_files(alloc, main, config, names, list, files)?;
+    let now = load_files(alloc, loader, names, list, files)?;
     add_imports(&now, refs, earlier)?;
-    match import_refusal(alloc, &now, names, config, refs, compared, known, earlier)? {
+    match import_refusal(alloc, &now, names, loader.config, refs, compared, known, earlier)? {
         Some(refusal) => return Err(Fault::Bad(refusal)),
         None => {}
     }
@@ -186,6 +185,7 @@ pub fn load_waves<F: Files>(
     ensures few { IfOk result (λ loaded. length loaded ≤ package_limit) }
     ensures small { IfOk result (λ loaded. file_bytes loaded ≤ file_limit) }
 {
+    let loader = Loader { main, config };
     let mut names = first_names(alloc, config)?;
     let mut list = PackageList::new(alloc);
     let mut refs = Vec::new(alloc);
@@ -193,7 +193,7 @@ pub fn load_waves<F: Files>(
     'waves: loop {
         let known = refs.len();
         list = one_wave(
-            alloc, main, config, &mut names, list, &mut refs, compared, files,
+            alloc, loader, &mut names, list, &mut refs, compared, files,
         )?;
         if names.len() == list.packages() as usize {
             let loaded = with_table(alloc, list)?;

@@ -6,7 +6,7 @@ use Rattle.glk_package.specs.ObjectRules.{uniform_rules, rules_after}
 use Rattle.glk_package.specs.PackageRefusal.{IsRefusedFor}
 use Rattle.glk_arena.specs.World.{Package, object_entries, file_bytes}
 use Rattle.glk_arena.specs.Waves.{file_of}
-use Rattle.glk_arena.specs.LoadParts.{inputs_of, IsPackageIn, IsFormatRefusal}
+use Rattle.glk_arena.specs.LoadParts.{inputs_by, IsPackageIn, IsFormatRefusal}
 use Rattle.glk_arena.proofs.FormatLemmas.{FormatsOn, formats_start, formats_more, formats_fault, formats_end, no_rest}
 use Rattle.glk_arena.proofs.parse_packages.append_wave.Goals as goal
 
@@ -15,7 +15,7 @@ front : (all rest : List (List ℕ)) (file : List ℕ) → all ≡ file ∷ rest
 front all rest file e = (ap length e ∙ omega arith, ap (sum_by length) e ∙ sum_by-cons length file rest)
 
 pub loop-file-init : goal.loop-file-init
-loop-file-init c = record { all = c.requires.all; small = c.requires.small; on = formats_start (inputs_of c.args.main.now c.args.config.now) c.args.files.items c.args.names.now c.args.earlier }
+loop-file-init c = record { all = c.requires.all; small = c.requires.small; on = formats_start (inputs_by c.args.loader) c.args.files.items c.args.names.now c.args.earlier }
 
 pub get-name-requires : goal.get-name-requires
 get-name-requires c =
@@ -51,12 +51,12 @@ loop-file-preserved c =
     let inside : length now < length c.args.names.now = omega (arith, parts.0, c.loop-file.invariant.all) in
     let name : c.get-name.result.now ≡ get_or c.args.names.now (length now) [] = c.get-name.ensures ∙ ap (λ k. get_or c.args.names.now k []) c.packages.ensures.value in
     let is : IsPackageIn (rules_after uniform_rules (object_entries now)) (get_or c.args.names.now (length now) []) c.in-Some.file c.in-Ok.package = rw (c.rules.ensures, name) at c.in-Ok.ensures.ok in
-    let F : List (List ℕ) → Type 0 = λ r. FormatsOn (inputs_of c.args.main.now c.args.config.now) (rules_after uniform_rules (object_entries c.args.earlier)) (drop (length c.args.earlier) c.args.names.now) c.args.files.items c.args.earlier now c.args.names.now r in
+    let F : List (List ℕ) → Type 0 = λ r. FormatsOn (inputs_by c.args.loader) (rules_after uniform_rules (object_entries c.args.earlier)) (drop (length c.args.earlier) c.args.names.now) c.args.files.items c.args.earlier now c.args.names.now r in
     let on = subst F c.in-Some.ensures.items c.loop-file.invariant.on in
     record {
       all = omega (arith, parts.0, c.loop-file.invariant.all, ap length more, length_push now c.in-Ok.package);
       small = omega (arith, parts.1, c.loop-file.invariant.small, ap length c.in-Ok.ensures.ok.file_is, ap file_bytes more, sum_by_push (λ p. length p.file) now c.in-Ok.package);
-      on = formats_more (inputs_of c.args.main.now c.args.config.now) _ _ _ c.args.earlier now next c.args.names.now c.pop_front.new.self.items c.in-Some.file c.in-Ok.package inside is more on;
+      on = formats_more (inputs_by c.args.loader) _ _ _ c.args.earlier now next c.args.names.now c.pop_front.new.self.items c.in-Some.file c.in-Ok.package inside is more on;
     }
 
 pub returns-in-Err-clause-err : goal.returns-in-Err-clause-err
@@ -65,20 +65,20 @@ returns-in-Err-clause-err c =
     let now : List Package = c.loop-file.list in
     let inside : length now < length c.args.names.now = omega (arith, parts.0, c.loop-file.invariant.all) in
     let name : c.get-name.result.now ≡ get_or c.args.names.now (length now) [] = c.get-name.ensures ∙ ap (λ k. get_or c.args.names.now k []) c.packages.ensures.value in
-    let lies : c.as_bytes-path.result.now ≡ file_of (inputs_of c.args.main.now c.args.config.now) (get_or c.args.names.now (length now) []) =
-    c.as_bytes-path.ensures.value ∙ (c.file_of.ensures ∙ ap (file_of (inputs_of c.args.main.now c.args.config.now)) name) in
-    let F : List (List ℕ) → Type 0 = λ r. FormatsOn (inputs_of c.args.main.now c.args.config.now) (rules_after uniform_rules (object_entries c.args.earlier)) (drop (length c.args.earlier) c.args.names.now) c.args.files.items c.args.earlier now c.args.names.now r in
+    let lies : c.as_bytes-path.result.now ≡ file_of (inputs_by c.args.loader) (get_or c.args.names.now (length now) []) =
+    c.as_bytes-path.ensures.value ∙ (c.file_of.ensures ∙ ap (file_of (inputs_by c.args.loader)) name) in
+    let F : List (List ℕ) → Type 0 = λ r. FormatsOn (inputs_by c.args.loader) (rules_after uniform_rules (object_entries c.args.earlier)) (drop (length c.args.earlier) c.args.names.now) c.args.files.items c.args.earlier now c.args.names.now r in
     let on = subst F c.in-Some.ensures.items c.loop-file.invariant.on in
     let err : IsRefusedFor (IsFormatRefusal (rules_after uniform_rules (object_entries now)) c.in-Some.file c.as_bytes-path.result.now) c.in-Err.fault = rw c.rules.ensures at c.in-Err.ensures.err in
-    formats_fault (inputs_of c.args.main.now c.args.config.now) _ _ _ c.args.earlier now c.args.names.now c.pop_front.new.self.items c.in-Some.file c.as_bytes-path.result.now c.in-Err.fault inside lies on err
+    formats_fault (inputs_by c.args.loader) _ _ _ c.args.earlier now c.args.names.now c.pop_front.new.self.items c.in-Some.file c.as_bytes-path.result.now c.in-Err.fault inside lies on err
 
 pub returns-clause-ok : goal.returns-clause-ok
 returns-clause-ok c =
     let none : c.loop-file.rest.items ≡ [] = no_rest c.loop-file.rest.items c.pop_front.new.self.items c.in_default.ensures.items c.in_default.ensures.rest in
-    let F : List (List ℕ) → Type 0 = λ r. FormatsOn (inputs_of c.args.main.now c.args.config.now) (rules_after uniform_rules (object_entries c.args.earlier)) (drop (length c.args.earlier) c.args.names.now) c.args.files.items c.args.earlier c.loop-file.list c.args.names.now r in
+    let F : List (List ℕ) → Type 0 = λ r. FormatsOn (inputs_by c.args.loader) (rules_after uniform_rules (object_entries c.args.earlier)) (drop (length c.args.earlier) c.args.names.now) c.args.files.items c.args.earlier c.loop-file.list c.args.names.now r in
     let on = subst F none c.loop-file.invariant.on in
     record {
       wave = on.wave;
       now_is = on.now_is;
-      formats = formats_end (inputs_of c.args.main.now c.args.config.now) _ _ _ c.args.earlier c.loop-file.list c.args.names.now (omega (arith, ap length none, c.loop-file.invariant.all)) on;
+      formats = formats_end (inputs_by c.args.loader) _ _ _ c.args.earlier c.loop-file.list c.args.names.now (omega (arith, ap length none, c.loop-file.invariant.all)) on;
     }

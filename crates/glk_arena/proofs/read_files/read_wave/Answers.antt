@@ -6,13 +6,13 @@ use Rattle.glk_base.specs.Limits.{file_limit}
 use Rattle.glk_io.specs.Changes.{FileState}
 use Rattle.glk_cause.specs.Reading.{ReadsWhole}
 use Rattle.glk_arena.specs.Waves.{LoadInputs, file_of}
-use Rattle.glk_arena.specs.LoadParts.{inputs_of}
+use Rattle.glk_arena.specs.LoadParts.{inputs_by}
 use Rattle.glk_arena.proofs.ReadLemmas.{ReadsOn, IsFileOf, reads_more, reads_exit, reads_end}
 use Rattle.glk_arena.proofs.read_files.read_wave.Goals as goal
 
 pub returns-in_err-file-clause-reads : goal.returns-in_err-file-clause-reads
 returns-in_err-file-clause-reads g c =
-    let inputs : LoadInputs = inputs_of c.args.main.now c.args.config.now in
+    let inputs : LoadInputs = inputs_by c.args.loader in
     let inside : c.loop-i.i < length c.args.names.now = omega (arith, c.len-i-end.ensures, c.loop-i-test.true) in
     let lies : c.file_of-path.result.now ≡ file_of inputs (get_or c.args.names.now c.loop-i.i []) = c.file_of-path.ensures ∙ ap (file_of inputs) c.get.ensures in
     let W : FileState → Type 0 = λ s. ReadsWhole s (g.F.Files.state c.read_named.new.files) c.file_of-path.result.now c.loop-i.left file_limit (Err c.in_err-file.field-0.0) in
@@ -22,7 +22,7 @@ returns-in_err-file-clause-reads g c =
 
 pub loop-i-preserved : goal.loop-i-preserved
 loop-i-preserved g c =
-    let inputs : LoadInputs = inputs_of c.args.main.now c.args.config.now in
+    let inputs : LoadInputs = inputs_by c.args.loader in
     let inside : c.loop-i.i < length c.args.names.now = omega (arith, c.len-i-end.ensures, c.loop-i-test.true) in
     let lies : c.file_of-path.result.now ≡ file_of inputs (get_or c.args.names.now c.loop-i.i []) = c.file_of-path.ensures ∙ ap (file_of inputs) c.get.ensures in
     let wave : c.push_back.new.self.items ≡ c.loop-i.wave.items ++ c.in_ok-file.file ∷ [] = c.in_ok-push_back.ensures.items in
@@ -44,6 +44,6 @@ loop-i-preserved g c =
 pub returns-clause-reads : goal.returns-clause-reads
 returns-clause-reads g c = (
   c.loop-i.invariant.unchanged,
-  reads_end (inputs_of c.args.main.now c.args.config.now) (g.F.Files.state c.args.files.now).contents c.args.limit c.loop-i.left c.loop-i.i (drop c.args.from c.args.names.now) c.args.names.now c.loop-i.wave.items
+  reads_end (inputs_by c.args.loader) (g.F.Files.state c.args.files.now).contents c.args.limit c.loop-i.left c.loop-i.i (drop c.args.from c.args.names.now) c.args.names.now c.loop-i.wave.items
       (omega (arith, c.len-i-end.ensures, c.loop-i-test.false)) c.loop-i.invariant.on,
 )

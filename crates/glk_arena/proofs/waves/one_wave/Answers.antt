@@ -2,7 +2,7 @@ use Rattle.std.proofs.Common.{◌≡◌, ◌∙◌, ℕ, List, Option, Some, Non
 use Rattle.glk_cause.specs.declared.cause.Cause.{Cause}
 use Rattle.glk_arena.specs.World.{Package}
 use Rattle.glk_arena.specs.Waves.{LoadInputs}
-use Rattle.glk_arena.specs.LoadParts.{inputs_of, import_refusal_of}
+use Rattle.glk_arena.specs.LoadParts.{inputs_by, import_refusal_of}
 use Rattle.glk_arena.proofs.ImportRefLemmas.{refs_moved, refs_grow}
 use Rattle.glk_arena.proofs.WaveSteps.{err_exit, wave_read, wave_faulted, wave_refused, wave_done}
 use Rattle.glk_arena.proofs.waves.one_wave.Goals as goal
@@ -10,7 +10,7 @@ use Rattle.glk_arena.proofs.waves.one_wave.Goals as goal
 pub returns-in_err-now-clause-err : goal.returns-in_err-now-clause-err
 returns-in_err-now-clause-err g c =
     err_exit _ c.from_residual.result c.in_err-now.field-0.0 c.from_residual.ensures.1
-    (wave_faulted (inputs_of c.args.main.now c.args.config.now) _ _ c.args.names.now c.args.list c.args.refs.now.items c.args.compared c.in_err-now.field-0.0 c.requires c.in_err-now.ensures.err)
+    (wave_faulted (inputs_by c.args.loader) _ _ c.args.names.now c.args.list c.args.refs.now.items c.args.compared c.in_err-now.field-0.0 c.requires c.in_err-now.ensures.err)
 
 pub add_imports-requires-clause-refs : goal.add_imports-requires-clause-refs
 add_imports-requires-clause-refs g c =
@@ -19,7 +19,7 @@ add_imports-requires-clause-refs g c =
 
 pub import_refusal-requires-clause-paths : goal.import_refusal-requires-clause-paths
 import_refusal-requires-clause-paths g c =
-    (wave_read (inputs_of c.args.main.now c.args.config.now) _ c.args.names.now c.args.list c.in_ok-now.now c.args.refs.now.items c.args.compared c.requires c.in_ok-now.ensures.ok).paths
+    (wave_read (inputs_by c.args.loader) _ c.args.names.now c.args.list c.in_ok-now.now c.args.refs.now.items c.args.compared c.requires c.in_ok-now.ensures.ok).paths
 
 pub import_refusal-requires-clause-known : goal.import_refusal-requires-clause-known
 import_refusal-requires-clause-known g c =
@@ -29,7 +29,7 @@ import_refusal-requires-clause-known g c =
 
 pub returns-in-Some-clause-err : goal.returns-in-Some-clause-err
 returns-in-Some-clause-err g c =
-    let inputs : LoadInputs = inputs_of c.args.main.now c.args.config.now in
+    let inputs : LoadInputs = inputs_by c.args.loader in
     let now : List Package = c.in_ok-now.now in
     let names : List (List ℕ) = c.args.names.now in
     let earlier : c.packages-earlier.result ≡ length c.args.list = c.packages-earlier.ensures.value in
@@ -47,7 +47,7 @@ queue_imports-requires-clause-from g c =
 
 pub returns-clause-ok : goal.returns-clause-ok
 returns-clause-ok g c =
-    let inputs : LoadInputs = inputs_of c.args.main.now c.args.config.now in
+    let inputs : LoadInputs = inputs_by c.args.loader in
     let now : List Package = c.in_ok-now.now in
     let names : List (List ℕ) = c.args.names.now in
     let read = c.in_ok-now.ensures.ok in
