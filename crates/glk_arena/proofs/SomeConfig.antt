@@ -42,17 +42,20 @@ good_or_bad ls =
     turn (least_below (length ls) (λ k. (k < length ls) × (IsGoodLine ls k → ⊥)) (λ k. all_of _ _ (below k (length ls)) (negated _ (is_good (line_at ls k)))) (λ k h. h.0))
   where
     good : (k : ℕ) → ((IsGoodLine ls k → ⊥) → ⊥) → IsGoodLine ls k
-    good k twice = elim (is_good (line_at ls k)) [ | inl is ↦ is | inr bad ↦ absurd (twice bad) ]
+    good k twice = elim (is_good (line_at ls k)) [ inl is ↦ is | inr bad ↦ absurd (twice bad) ]
 
     turn : HasLeast (λ k. (k < length ls) × (IsGoodLine ls k → ⊥)) → AllGood ls (IsGoodLine ls) ⊎ ((number : ℕ) × IsFirstBad ls (IsGoodLine ls) number)
     turn (inr none) = inl (λ k inside. good k (λ bad. none k (inside, bad)))
-    turn (inl (k, l)) = inr (line_number k, record {
-      line = k;
-      inside = l.holds.0;
-      before = λ j less. good j (λ bad. let low = l.least j (omega (arith, less, l.holds.0), bad) in omega (arith, low, less));
-      bad = l.holds.1;
-      number_is = refl;
-    })
+    turn (inl (k, l)) = inr (
+      line_number k,
+      record {
+        line = k;
+        inside = l.holds.0;
+        before = λ j less. good j (λ bad. let low = l.least j (omega (arith, less, l.holds.0), bad) in omega (arith, low, less));
+        bad = l.holds.1;
+        number_is = refl;
+      },
+    )
 
 -- a line lists this path
 lists_path : (line path : List ℕ) → IsDecided ((file : List ℕ) × Lists line path file)
@@ -67,31 +70,40 @@ last_file ls (suc n) path = step (lists_path (line_at ls n) path) (last_file ls 
   where
     step : IsDecided ((file : List ℕ) × Lists (line_at ls n) path file) → (file : Option (List ℕ)) × IsLastFile ls n path file → (file : Option (List ℕ)) × IsLastFile ls (suc n) path file
     step (inl (file, lists)) before = (Some file, record { line = n; inside = omega arith; lists = lists; later = λ k other more less h. omega (arith, more, less) })
-    step (inr none) (None, no_earlier) = (None, λ k file less lists. elim (cases_lt k n) [
-      | inl early ↦ no_earlier k file early lists
-      | inr late ↦
-          let e : k ≡ n = omega (arith, less) in
-          none (file, subst (λ (j : ℕ). Lists (line_at ls j) path file) e lists)
-    ])
-    step (inr none) (Some file, is) = (Some file, record {
-      line = is.line;
-      inside = omega (arith, is.inside);
-      lists = is.lists;
-      later = λ k other more less lists. elim (cases_lt k n) [
-        | inl early ↦ is.later k other more early lists
+    step (inr none) (None, no_earlier) = (
+      None,
+      λ k file less lists. elim (cases_lt k n) [
+        | inl early ↦ no_earlier k file early lists
         | inr late ↦
             let e : k ≡ n = omega (arith, less) in
-            none (other, subst (λ (j : ℕ). Lists (line_at ls j) path other) e lists)
-      ];
-    })
+            none (file, subst (λ (j : ℕ). Lists (line_at ls j) path file) e lists)
+      ],
+    )
+    step (inr none) (Some file, is) = (
+      Some file,
+      record {
+        line = is.line;
+        inside = omega (arith, is.inside);
+        lists = is.lists;
+        later = λ k other more less lists. elim (cases_lt k n) [
+          | inl early ↦ is.later k other more early lists
+          | inr late ↦
+              let e : k ≡ n = omega (arith, less) in
+              none (other, subst (λ (j : ℕ). Lists (line_at ls j) path other) e lists)
+        ];
+      },
+    )
 
 pub some_config : (text : List ℕ) → ((listed : List ℕ → Option (List ℕ)) × ConfigLines (lines text) listed) ⊎ ((number : ℕ) × IsFirstBad (lines text) (IsGoodLine (lines text)) number)
 some_config text = turn (good_or_bad (lines text))
   where
     turn : AllGood (lines text) (IsGoodLine (lines text)) ⊎ ((number : ℕ) × IsFirstBad (lines text) (IsGoodLine (lines text)) number)
         → ((listed : List ℕ → Option (List ℕ)) × ConfigLines (lines text) listed) ⊎ ((number : ℕ) × IsFirstBad (lines text) (IsGoodLine (lines text)) number)
-    turn (inl good) = inl (λ path. (last_file (lines text) (length (lines text)) path).0, record {
-      good = good;
-      files = λ path. (last_file (lines text) (length (lines text)) path).1;
-    })
+    turn (inl good) = inl (
+      λ path. (last_file (lines text) (length (lines text)) path).0,
+      record {
+        good = good;
+        files = λ path. (last_file (lines text) (length (lines text)) path).1;
+      },
+    )
     turn (inr bad) = inr bad

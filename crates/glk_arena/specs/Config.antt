@@ -59,4 +59,4 @@ pub record ConfigLines (ls : List (List ℕ)) (listed : List ℕ → Option (Lis
 abbrev pub IsSomeConfig : Type 0
 IsSomeConfig = (text : List ℕ)
     → ((listed : List ℕ → Option (List ℕ)) × ConfigLines (lines text) listed)
-      ⊎ ((number : ℕ) × IsFirstBad (lines text) (IsGoodLine (lines text)) number)
+    ⊎ ((number : ℕ) × IsFirstBad (lines text) (IsGoodLine (lines text)) number)

@@ -157,7 +157,16 @@ fn one_wave<F: Files>(
     let known = refs.len();
     let now = load_files(alloc, loader, names, list, files)?;
     add_imports(&now, refs, earlier)?;
-    match import_refusal(alloc, &now, names, loader.config, refs, compared, known, earlier)? {
+    match import_refusal(
+        alloc,
+        &now,
+        names,
+        loader.config,
+        refs,
+        compared,
+        known,
+        earlier,
+    )? {
         Some(refusal) => return Err(Fault::Bad(refusal)),
         None => {}
     }
@@ -192,9 +201,7 @@ pub fn load_waves<F: Files>(
     let mut compared = 0;
     'waves: loop {
         let known = refs.len();
-        list = one_wave(
-            alloc, loader, &mut names, list, &mut refs, compared, files,
-        )?;
+        list = one_wave(alloc, loader, &mut names, list, &mut refs, compared, files)?;
         if names.len() == list.packages() as usize {
             let loaded = with_table(alloc, list)?;
             return Ok(loaded);

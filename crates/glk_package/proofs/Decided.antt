@@ -29,10 +29,10 @@ negated A (inl a) = inr (λ n. n a)
 negated A (inr n) = inl n
 
 pub below : (m n : ℕ) → IsDecided (m < n)
-below m n = elim (cases_lt m n) [ | inl less ↦ inl less | inr more ↦ inr (λ less. omega arith) ]
+below m n = elim (cases_lt m n) [ inl less ↦ inl less | inr more ↦ inr (λ less. omega arith) ]
 
 pub at_most : (m n : ℕ) → IsDecided (m ≤ n)
-at_most m n = elim (cases_lt n m) [ | inl more ↦ inr (λ less. omega arith) | inr less ↦ inl less ]
+at_most m n = elim (cases_lt n m) [ inl more ↦ inr (λ less. omega arith) | inr less ↦ inl less ]
 
 pub is_true : (b : Bool) → IsDecided (b ≡ true)
 is_true true = inl refl

@@ -71,12 +71,18 @@ by_part rules n at name body part holds = by_line (allows rules.headers part.lin
     by_width allowed whole (inl fits) =
         inl (record { member = n; name = name; line = part.line; goobj = part.goobj; at = at + part.at }, record { part = part; holds = holds; allowed = allowed; whole = whole; fits = fits; is = refl })
     by_width allowed whole (inr other) =
-        inr (bad.Malformed n family.Object width_rule (header_offset hash), (refl, record {
-          part = part;
-          holds = holds;
-          allowed = allowed;
-          first = inr (record { whole = whole; other = other; rule_is = refl; offset_is = refl });
-        }))
+        inr (
+          bad.Malformed n family.Object width_rule (header_offset hash),
+          (
+            refl,
+            record {
+              part = part;
+              holds = holds;
+              allowed = allowed;
+              first = inr (record { whole = whole; other = other; rule_is = refl; offset_is = refl });
+            },
+          ),
+        )
 
     by_rules : Allows rules.headers part.line → ((rule : ℕ) × (offset : ℕ) × FirstBroken (Breaks part.goobj) rule offset) ⊎ IsObject part.goobj → BodyAnswer rules n at name body
     by_rules allowed (inl (rule, offset, first)) = inr (bad.Malformed n family.Object rule offset, (refl, record { part = part; holds = holds; allowed = allowed; first = inl first }))
@@ -133,10 +139,10 @@ member_or_rule : (s : List ℕ) → IsMember s ⊎ ((rule : ℕ) × BreaksFirst 
 member_or_rule s = turn (least_below 7 (λ rule. Keeps s rule → ⊥) (λ rule. negated _ (keeps s rule)) early)
   where
     early : (rule : ℕ) → (Keeps s rule → ⊥) → rule < 7
-    early rule broken = elim (cases_lt rule 7) [ | inl less ↦ less | inr more ↦ absurd (broken (keeps_late s rule more)) ]
+    early rule broken = elim (cases_lt rule 7) [ inl less ↦ less | inr more ↦ absurd (broken (keeps_late s rule more)) ]
 
     kept : (rule : ℕ) → ((Keeps s rule → ⊥) → ⊥) → Keeps s rule
-    kept rule twice = elim (keeps s rule) [ | inl k ↦ k | inr broken ↦ absurd (twice broken) ]
+    kept rule twice = elim (keeps s rule) [ inl k ↦ k | inr broken ↦ absurd (twice broken) ]
 
     turn : HasLeast (λ rule. Keeps s rule → ⊥) → IsMember s ⊎ ((rule : ℕ) × BreaksFirst s rule)
     turn (inl (rule, l)) = inr (rule, (l.holds, λ k less. kept k (λ broken. let low = l.least k broken in omega (arith, low, less))))
@@ -165,13 +171,17 @@ walks_on : (rules : ObjectRules) (file : List ℕ) (p n : ℕ) (e : Entry) (here
 walks_on rules file p n e here member gives (es, rest, last, walk) =
     let P : ℕ → Type 0 = λ k. IsStop (rules_after rules (here ++ rest)) file walk.end_at k last in
     let Q : ObjectRules → Type 0 = λ w. IsStop w file walk.end_at (n + 1 + length es) last in
-    let numbers : n + length (e ∷ es) ≡ n + 1 + length es = omega arith in
-    (e ∷ es, here ++ rest, last, record {
-      end_at = walk.end_at;
-      members = (member, walk.members);
-      hold = (here, rest, gives, walk.hold, refl);
-      stop = subst P (sym numbers) (subst Q (after_both rules here rest) walk.stop);
-    })
+    let numbers : n + length (e ∷ es) ≡ n + 1 + length es = omega arith in (
+      e ∷ es,
+      here ++ rest,
+      last,
+      record {
+        end_at = walk.end_at;
+        members = (member, walk.members);
+        hold = (here, rest, gives, walk.hold, refl);
+        stop = subst P (sym numbers) (subst Q (after_both rules here rest) walk.stop);
+      },
+    )
 
 -- each member moves on, and not past the end
 moves_on : (file : List ℕ) (p : ℕ) → p < length file → (p < after file p) × (after file p ≤ length file)
@@ -220,15 +230,20 @@ some_archive rules file = by_magic (is_true (starts_with nat_eq file magic))
         → (answer : Result (List ObjectEntry) PackageBad) × ArchiveFile rules file answer
     by_end begins es xs None walk = (Ok xs, (es, (begins, run_of file first_offset es walk.end_at walk.members walk.stop), walk.hold))
     by_end begins es xs (Some fault) walk =
-        let P : ℕ → Type 0 = λ k. IsFaultAt (rules_after rules xs) file walk.end_at k fault in
-        (Err fault, inr (begins, record {
-          before = es;
-          at = walk.end_at;
-          members = walk.members;
-          objects = xs;
-          hold = walk.hold;
-          fault = subst P (zero-add (length es)) walk.stop;
-        }))
+        let P : ℕ → Type 0 = λ k. IsFaultAt (rules_after rules xs) file walk.end_at k fault in (
+          Err fault,
+          inr (
+            begins,
+            record {
+              before = es;
+              at = walk.end_at;
+              members = walk.members;
+              objects = xs;
+              hold = walk.hold;
+              fault = subst P (zero-add (length es)) walk.stop;
+            },
+          ),
+        )
 
     by_walk : HasMagic file → HasWalk rules file first_offset 0 → (answer : Result (List ObjectEntry) PackageBad) × ArchiveFile rules file answer
     by_walk begins (es, xs, last, walk) = by_end begins es xs last walk
