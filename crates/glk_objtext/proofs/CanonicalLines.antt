@@ -1,5 +1,5 @@
 -- The canonical text is that of the lines of a description.
-use Rattle.std.proofs.Common.{◌≡◌, ◌∙◌, ℕ, List, [], ◌∷◌, ◌++◌, map, refl, ap, sym, append_assoc, append-nil}
+use Rattle.std.proofs.Common.{◌≡◌, ◌∙◌, ℕ, List, [], ◌∷◌, ◌++◌, map, refl, ap, append-nil}
 use Rattle.std.specs.List.{flat_map}
 use Rattle.std.proofs.lemmas.List.Concat.{flat_map-append}
 use Rattle.glk_obj.specs.declared.records.AuxRec.{AuxRec}
@@ -11,14 +11,12 @@ use Rattle.glk_objdesc.specs.declared.desc.ObjDesc.{ObjDesc}
 use Rattle.glk_objdesc.specs.declared.desc.RefNameDesc.{RefNameDesc}
 use Rattle.glk_objdesc.specs.declared.desc.SymDesc.{SymDesc}
 use Rattle.glk_objtext.specs.CanonicalText.{autolib_line_of, header_line_of, string_line_of, symbol_line_of, data_line_of, reloc_line_of, aux_line_of, definition_lines_of, refflags_line_of, refname_line_of, canonical_text}
-use Rattle.glk_objtext.specs.Kinds.{Kind}
 use Rattle.glk_objtext.specs.Kinds.Kind.{pkg_line, file_line, def_line, hash64_line, hash_line, ndef_line, ref_line}
 use Rattle.glk_objtext.specs.Text.{whole_line, texts, content_lines, def_lines, lines_of, text_of}
 use Rattle.glk_objtext.specs.Words.{spelling}
-use Rattle.glk_objtext.specs.declared.line.DefBlock.{DefBlock}
 use Rattle.glk_objtext.specs.declared.line.DefBlock.TheVariants.{Symdef, Hashed64def, Hasheddef, Nonpkgdef}
 use Rattle.glk_objtext.specs.declared.line.Line.{Line}
-use Rattle.glk_objtext.specs.declared.line.Line.TheVariants.{Header, Import, Package, Source, Symbol, Content, Relocation, Auxiliary, Reference, Flags, Named}
+use Rattle.glk_objtext.specs.declared.line.Line.TheVariants.{Header, Import, Package, Source, Symbol, Relocation, Auxiliary, Reference, Flags, Named}
 
 -- lines of one kind
 mapped : {A : Type 0} (make : A → Line) (text : A → List ℕ) → ((x : A) → whole_line (make x) ≡ text x) → (xs : List A) → texts (map make xs) ≡ flat_map text xs

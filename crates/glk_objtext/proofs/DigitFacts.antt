@@ -1,6 +1,6 @@
 -- Lower-case hexadecimal digits and their values.
-use Rattle.std.proofs.Common.{◌≡◌, ℕ, ◌+◌, ◌*◌, ◌/◌, ◌%◌, ◌-◌, ◌<◌, ◌≤◌, List, [], ◌∷◌, Bool, true, false, not, ◌||◌, ◌&&◌, get_or, refl, arith, eqb, ltb, Option, Some}
-use Rattle.std.proofs.lemmas.Bool.{agree_below, agree_below_at, eqb-true, ltb-true, or_cases, and_parts, false≢true}
+use Rattle.std.proofs.Common.{◌≡◌, ℕ, ◌+◌, ◌*◌, ◌/◌, ◌%◌, ◌<◌, ◌≤◌, List, ◌∷◌, Bool, true, false, not, ◌||◌, get_or, refl, arith, eqb, ltb, Some}
+use Rattle.std.proofs.lemmas.Bool.{agree_below, agree_below_at, eqb-true, ltb-true, false≢true}
 use Rattle.hex.specs.Hex.{lower_digits, hex_digit_value, encode_lower, encode_with}
 use Rattle.glk_objtext.specs.Strings.{is_low_hex, hex_value}
 

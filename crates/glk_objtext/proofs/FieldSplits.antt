@@ -1,12 +1,12 @@
 -- The fields of a line are those that the text form gives it, and no others.
-use Rattle.std.proofs.Common.{◌≡◌, ◌∙◌, ℕ, ◌<◌, Bool, true, false, List, [], ◌∷◌, ◌++◌, length, refl, ap, sym, subst, arith, cond, inl, inr, eqb, append_assoc, append-nil}
+use Rattle.std.proofs.Common.{◌≡◌, ◌∙◌, ℕ, ◌<◌, true, false, List, [], ◌∷◌, ◌++◌, length, refl, ap, sym, arith, inl, inr, eqb, append_assoc, append-nil}
 use Rattle.std.specs.Prelude.{◌⊎◌}
 use Rattle.std.specs.List.{All, concat}
-use Rattle.std.proofs.lemmas.Bool.{cases_eq, eqb-true, eqb-false, false≢true}
+use Rattle.std.proofs.lemmas.Bool.{cases_eq}
 use Rattle.std.proofs.lemmas.List.Elements.{All-nil, All-cons, All-head, All-tail, All-push}
 use Rattle.std.proofs.lemmas.List.Folds.{concat-append}
-use Rattle.glk_objtext.specs.Fields.{space, quote, backslash, next_mode, is_between, fields_from, field_ended, fields}
-use Rattle.glk_objtext.specs.Forms.{IsSpace, IsNoSpace, IsOther, IsQuotedPiece, IsQuotedRun, IsPlainField, IsQuotedField, IsOpenField, IsLineEnd, EndsBefore, BeginsWith, HasFields}
+use Rattle.glk_objtext.specs.Fields.{quote, backslash, next_mode, is_between, fields_from, fields}
+use Rattle.glk_objtext.specs.Forms.{IsSpace, IsNoSpace, IsQuotedPiece, IsQuotedRun, IsPlainField, IsQuotedField, IsOpenField, EndsBefore, HasFields}
 use Rattle.glk_objtext.specs.declared.fields.Mode.{Mode}
 use Rattle.glk_objtext.specs.declared.fields.Mode.TheVariants.{Between, Bare, Quoted, Escaped}
 use Rattle.glk_objtext.proofs.FieldSteps.{byte_ends, byte_goes_on, at_end}

@@ -1,19 +1,16 @@
 -- What a line reads as, by the text form: a value that holds its fields, or the rule of the first
 -- malformed field.
-use Rattle.std.proofs.Common.{◌≡◌, ◌∙◌, ◌+◌, ◌<◌, ℕ, Bool, true, false, List, [], ◌∷◌, length, get_or, refl, ap, sym, subst, arith, inl, inr, Result, Ok, Err}
+use Rattle.std.proofs.Common.{◌≡◌, ◌+◌, ◌<◌, ℕ, Bool, true, false, List, [], ◌∷◌, length, refl, sym, arith, inl, inr, Result, Ok, Err}
 use Rattle.std.specs.Prelude.{◌⊎◌}
 use Rattle.std.specs.List.{All}
-use Rattle.std.proofs.lemmas.Bool.{false≢true, true≢false}
-use Rattle.glk_objdesc.specs.declared.desc.SymDesc.{SymDesc}
+use Rattle.std.proofs.lemmas.Bool.{false≢true}
 use Rattle.glk_objtext.specs.Entries.{HoldsHeader, HoldsAutolib, HoldsString, HoldsSymbol, HoldsShortHash, HoldsLongHash, HoldsData, HoldsReloc, HoldsAux, HoldsRefFlags, HoldsRefName}
 use Rattle.glk_objtext.specs.Fields.{field_at}
-use Rattle.glk_objtext.specs.Forms.{IsOctets}
-use Rattle.glk_objtext.specs.Kinds.{Sort, Kind, symbol_sorts, kind_sorts, HasMalformed}
-use Rattle.glk_objtext.specs.Kinds.Sort.{number, signed, reference, text, octets, sized}
-use Rattle.glk_objtext.specs.Octets.{octets_of, sized_of}
+use Rattle.glk_objtext.specs.Kinds.{Sort, symbol_sorts, kind_sorts, HasMalformed}
+use Rattle.glk_objtext.specs.Kinds.Sort.{text, octets, sized}
+use Rattle.glk_objtext.specs.Octets.{octets_of}
 use Rattle.glk_objtext.specs.Strings.{string_of}
 use Rattle.glk_objtext.specs.Values.{value_of, as_line, short_hashed_of, long_hashed_of, header_of, import_of, symbol_of, reloc_of, aux_of, ref_flags_of, ref_name_of, word_of_line}
-use Rattle.glk_objtext.specs.declared.line.DefBlock.{DefBlock}
 use Rattle.glk_objtext.specs.declared.line.DefBlock.TheVariants.{Symdef, Hashed64def, Hasheddef, Nonpkgdef}
 use Rattle.glk_objtext.specs.declared.line.Line.{Line}
 use Rattle.glk_objtext.specs.declared.line.Line.TheVariants.{Header, Import, Package, Source, Symbol, Content, Relocation, Auxiliary, Reference, Flags, Named}

@@ -1,11 +1,9 @@
 -- The lines of a text hold the description that they read as, and no other.
-use Rattle.std.proofs.Common.{◌≡◌, ◌∙◌, ◌^◌, ◌<◌, ◌≤◌, ℕ, ℤ, Bool, true, false, List, [], ◌∷◌, refl, ap, sym, subst, arith, Result, Ok, Err}
+use Rattle.std.proofs.Common.{◌≡◌, ℕ, true, false, List, [], ◌∷◌, refl, ap, sym, subst}
 use Rattle.std.specs.List.{AllZip}
 use Rattle.std.specs.Str.{bytes_eq}
-use Rattle.glk_objdesc.specs.declared.desc.DefDesc.{DefDesc}
 use Rattle.glk_objtext.specs.Description.{imports, packages, sources, references, flag_records, ref_names, content_under, relocs_under, auxes_under, definitions}
 use Rattle.glk_objtext.specs.Entries.{HoldsAutolib, HoldsString, HoldsSymbol, HoldsData, HoldsReloc, HoldsAux, HoldsRefFlags, HoldsRefName}
-use Rattle.glk_objtext.specs.Fields.{field_at}
 use Rattle.glk_objtext.specs.Kinds.{Kind, kind_word}
 use Rattle.glk_objtext.specs.Kinds.Kind.{autolib_line, pkg_line, file_line, def_line, hash64_line, hash_line, ndef_line, ref_line, refflags_line, refname_line, data_line, reloc_line, aux_line}
 use Rattle.glk_objtext.specs.Rules.{LineFields}

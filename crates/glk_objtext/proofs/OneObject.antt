@@ -1,5 +1,5 @@
 -- Lines hold one description.
-use Rattle.std.proofs.Common.{◌≡◌, ◌∙◌, ◌^◌, ◌<◌, ◌≤◌, ℕ, ℤ, List, [], ◌∷◌, refl, ap, sym, subst, arith, inl, inr, Result, Ok, Err}
+use Rattle.std.proofs.Common.{◌≡◌, ◌∙◌, ◌^◌, ℕ, List, [], ◌∷◌, refl, ap, sym, arith, Ok}
 use Rattle.std.specs.List.{AllZip}
 use Rattle.glk_obj.specs.declared.records.AuxRec.{AuxRec}
 use Rattle.glk_obj.specs.declared.records.RefFlagsRec.{RefFlagsRec}
@@ -9,7 +9,7 @@ use Rattle.glk_objdesc.specs.declared.desc.DefDesc.{DefDesc}
 use Rattle.glk_objdesc.specs.declared.desc.ObjDesc.{ObjDesc}
 use Rattle.glk_objdesc.specs.declared.desc.RefNameDesc.{RefNameDesc}
 use Rattle.glk_objdesc.specs.declared.desc.SymDesc.{SymDesc}
-use Rattle.glk_objtext.specs.Entries.{HoldsHeader, HoldsAutolib, HoldsString, HoldsSymbol, HoldsData, HoldsReloc, HoldsAux, HoldsRefFlags, HoldsRefName}
+use Rattle.glk_objtext.specs.Entries.{HoldsAutolib, HoldsString, HoldsSymbol, HoldsReloc, HoldsAux, HoldsRefFlags, HoldsRefName}
 use Rattle.glk_objtext.specs.Fields.{field_at}
 use Rattle.glk_objtext.specs.Forms.{IsNumber, IsOctets, IsSized, IsString}
 use Rattle.glk_objtext.specs.Kinds.{Kind}

@@ -1,21 +1,20 @@
 -- The numbers, bytes and references that fields spell are those of the text form, and no others.
-use Rattle.std.proofs.Common.{◌≡◌, ◌∙◌, ℕ, ℤ, pos, negsuc, ◌+◌, ◌*◌, ◌/◌, ◌%◌, ◌-◌, ◌^◌, ◌<◌, ◌≤◌, Bool, true, false, not, List, [], ◌∷◌, ◌++◌, length, get_or, take, drop, refl, ap, sym, subst, arith, cond, inl, inr, eqb, nat_lt, zero, suc, append_assoc, codes, Option, Some, Result, Ok, Err}
-use Rattle.std.specs.Prelude.{◌⊎◌, ◌&&◌, decimal}
-use Rattle.std.specs.Fmt.{signed_decimal}
+use Rattle.std.proofs.Common.{◌≡◌, ◌∙◌, ℕ, ℤ, pos, negsuc, ◌+◌, ◌*◌, ◌-◌, ◌^◌, ◌<◌, ◌≤◌, Bool, true, false, not, List, [], ◌∷◌, ◌++◌, length, get_or, take, drop, refl, ap, sym, subst, arith, cond, inl, inr, eqb, nat_lt, suc, codes, Result, Ok, Err}
+use Rattle.std.specs.Prelude.{◌&&◌, decimal}
 use Rattle.std.specs.List.{list_all, position_or_len}
 use Rattle.std.specs.Str.{bytes_eq}
 use Rattle.std.specs.Str.Parse.{digits_value}
 use Rattle.std.specs.Cmp.Lexicographic.{bytes_decides}
-use Rattle.std.proofs.lemmas.Bool.{and_parts, and_from, eqb-true, eqb-false, ltb-true, lt-ltb, false≢true}
+use Rattle.std.proofs.lemmas.Bool.{and_parts, eqb-true, eqb-false, ltb-true}
 use Rattle.std.proofs.lemmas.List.Sums.{split_at_first}
-use Rattle.hex.specs.Hex.{decode_of, decode_pairs, encode_lower, encode_with, lower_digits, pair_value, IsBytes}
+use Rattle.hex.specs.Hex.{decode_of, decode_pairs, encode_lower, encode_with, pair_value, IsBytes}
 use Rattle.hex.specs.declared.error.FromHexError.{FromHexError}
 use Rattle.hex.proofs.HexLemmas.{decode_of-ok, decode_of-even}
 use Rattle.hex.proofs.Pairs.{cons_byte, decode_pairs-ok_pair}
 use Rattle.glk_obj.specs.declared.records.SymRef.{SymRef}
 use Rattle.glk_objtext.specs.Answers.{◌>>=◌}
 use Rattle.glk_objtext.specs.Forms.{IsNumber, IsSigned, IsOctets, IsSized, IsReference}
-use Rattle.glk_objtext.specs.Numbers.{number_of, signed_of, below_zero, IsWithin}
+use Rattle.glk_objtext.specs.Numbers.{number_of, signed_of, below_zero}
 use Rattle.glk_objtext.specs.Octets.{octets_of, pairs_of, sized_of, octets_text, or_bad_string}
 use Rattle.glk_objtext.specs.Strings.{is_low_hex, hex_value}
 use Rattle.glk_objtext.specs.Targets.{package_of, package_text, target_of, target_text, target_at, entry_of}

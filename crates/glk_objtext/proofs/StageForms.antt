@@ -1,9 +1,7 @@
 -- How far the lines have come, and the least rule that the next one breaks, by the text form.
-use Rattle.std.proofs.Common.{◌≡◌, ◌∙◌, ◌+◌, ◌<◌, ◌≤◌, ℕ, Bool, true, false, not, List, [], ◌∷◌, length, refl, ap, sym, subst, arith, inl, inr, eqb, nat_le, Option, Some, None, Result, Ok, Err}
+use Rattle.std.proofs.Common.{◌≡◌, ◌∙◌, ◌+◌, ◌<◌, ◌≤◌, ℕ, Bool, true, false, not, List, [], ◌∷◌, length, refl, ap, sym, subst, arith, inl, inr, eqb, nat_le, Option, Some, None, Ok, Err}
 use Rattle.std.specs.Prelude.{◌⊎◌, ◌&&◌}
-use Rattle.std.specs.List.{All}
-use Rattle.std.proofs.lemmas.Bool.{cases_Bool, cases_eq, eqb-true, eqb-false, leb-true, leb-false, and_parts, and_cases, false≢true, true≢false, not-true, not-false}
-use Rattle.glk_objtext.specs.Answers.{demand}
+use Rattle.std.proofs.lemmas.Bool.{cases_Bool, eqb-true, eqb-false, leb-true, leb-false, and_parts, and_cases, false≢true, true≢false, not-true, not-false}
 use Rattle.glk_objtext.specs.Fields.{fields, field_at}
 use Rattle.glk_objtext.specs.Forms.{IsOctets}
 use Rattle.glk_objtext.specs.Grammar.{at_start, after, line_at, begins_well, is_ordered, has_room, fits_width, is_hash_width, rank_after, part_after, width_after}
@@ -11,9 +9,8 @@ use Rattle.glk_objtext.specs.Kinds.{Kind, kind_word, kind_place, kind_sorts, may
 use Rattle.glk_objtext.specs.Kinds.Kind.{object_line, hash_line}
 use Rattle.glk_objtext.specs.Rules.{LineFields, SomeLine, IsOfKind, IsPast, HasHashLength, HasOtherLength, MayStand, Rule, rule_number, Breaks, BreaksFirst, IsGoodLine}
 use Rattle.glk_objtext.specs.Rules.Rule.{X1, X2, X3, X4, X5, X6, X7, X8}
-use Rattle.glk_objtext.specs.Values.{value_of, word_of_line}
-use Rattle.glk_objtext.specs.Words.{word_of, arity, rank}
-use Rattle.glk_objtext.specs.declared.line.DefBlock.{DefBlock}
+use Rattle.glk_objtext.specs.Values.{word_of_line}
+use Rattle.glk_objtext.specs.Words.{arity, rank}
 use Rattle.glk_objtext.specs.declared.line.DefBlock.TheVariants.{Symdef, Hashed64def, Hasheddef, Nonpkgdef}
 use Rattle.glk_objtext.specs.declared.line.Line.{Line}
 use Rattle.glk_objtext.specs.declared.line.Line.TheVariants.{Header, Import, Package, Source, Symbol, Content, Relocation, Auxiliary, Reference, Flags, Named}
@@ -23,8 +20,8 @@ use Rattle.glk_objtext.specs.declared.stage.Stage.{Stage}
 use Rattle.glk_objtext.specs.declared.words.Word.{Word}
 use Rattle.glk_objtext.specs.declared.words.Word.TheVariants.{Object, Autolib, Pkg, File, Def, Hash64, Hash, Data, Reloc, Aux, Ndef, Ref, RefFlags, RefName}
 use Rattle.glk_objtext.proofs.FieldSplits.{fields_full}
-use Rattle.glk_objtext.proofs.KindFacts.{kind_of, each_word, word_verdict, kind_only, kind_reads, place_is, arity_is, room_is, room_begins}
-use Rattle.glk_objtext.proofs.LineForms.{Holds, Reads, line_reads}
+use Rattle.glk_objtext.proofs.KindFacts.{kind_of, word_verdict, kind_only, arity_is, room_is, room_begins}
+use Rattle.glk_objtext.proofs.LineForms.{Holds, line_reads}
 use Rattle.glk_objtext.proofs.SortForms.{octets_are, same_ok}
 
 -- What the lines above tell of a stage.

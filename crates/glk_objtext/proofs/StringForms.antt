@@ -1,12 +1,11 @@
 -- The strings that fields spell are those of the text form, and no others.
-use Rattle.std.proofs.Common.{◌≡◌, ◌∙◌, ℕ, ◌+◌, ◌*◌, ◌/◌, ◌%◌, ◌-◌, ◌<◌, ◌≤◌, Bool, true, false, List, [], ◌∷◌, ◌++◌, length, get_or, refl, ap, sym, subst, arith, cond, inl, inr, eqb, drop, zero, suc, append_assoc, append-nil, Option, Some, None, Result, Ok, Err}
+use Rattle.std.proofs.Common.{◌≡◌, ◌∙◌, ℕ, ◌+◌, ◌*◌, ◌/◌, ◌%◌, ◌<◌, Bool, true, false, List, [], ◌∷◌, ◌++◌, get_or, refl, ap, sym, subst, arith, cond, inl, inr, eqb, drop, append_assoc, Option, Some, None, Ok, Err}
 use Rattle.std.specs.Prelude.{◌⊎◌, ◌&&◌, ◌||◌}
-use Rattle.std.proofs.lemmas.Bool.{cases_eq, cases_Bool, and_parts, eqb-true, eqb-false, false≢true, true≢false, or_cases, leb-true, ltb-true}
+use Rattle.std.proofs.lemmas.Bool.{cases_eq, and_parts, eqb-true, eqb-false, false≢true, or_cases}
 use Rattle.hex.specs.Hex.{lower_digits, encode_lower, encode_with}
 use Rattle.glk_objtext.specs.Answers.{or_rule}
-use Rattle.glk_objtext.specs.Fields.{quote, backslash}
-use Rattle.glk_objtext.specs.Forms.{IsOther, SpellsByte, SpellsBytes, IsQuotedString, IsString}
-use Rattle.glk_objtext.specs.Strings.{is_bare, is_bare_byte, is_printed, is_low_hex, hex_value, is_escaped_byte, hex_letter, step, inside, onto, closing, string_of}
+use Rattle.glk_objtext.specs.Forms.{SpellsByte, SpellsBytes, IsString}
+use Rattle.glk_objtext.specs.Strings.{is_bare, is_printed, is_low_hex, hex_value, is_escaped_byte, step, inside, onto, closing, string_of}
 use Rattle.glk_objtext.specs.declared.strings.Inside.{Inside}
 use Rattle.glk_objtext.specs.declared.strings.Inside.TheVariants.{Plain, Pair, HighDigit, LowDigit}
 use Rattle.glk_objtext.specs.declared.strings.Step.{Step}

@@ -1,5 +1,5 @@
 -- Reading a reference's canonical spelling gives back the reference.
-use Rattle.std.proofs.Common.{◌≡◌, ℕ, ◌^◌, ◌<◌, ◌≤◌, true, false, not, List, [], ◌∷◌, ◌++◌, length, get_or, refl, ap, arith, Ok, eqb, nat_lt, codes, length-append}
+use Rattle.std.proofs.Common.{◌≡◌, ℕ, ◌^◌, ◌<◌, true, false, not, List, [], ◌∷◌, ◌++◌, length, get_or, refl, ap, arith, Ok, eqb, nat_lt, codes, length-append}
 use Rattle.std.specs.Prelude.{decimal}
 use Rattle.std.specs.List.{list_all, position_or_len}
 use Rattle.std.specs.Str.{bytes_eq}

@@ -1,25 +1,25 @@
 -- The text form as a whole: what a text reads as is what the form says, and its first bad line is.
-use Rattle.std.proofs.Common.{◌≡◌, ◌∙◌, ◌+◌, ◌-◌, ◌<◌, ◌^◌, min, ℕ, Bool, true, false, List, [], ◌∷◌, refl, ap, sym, subst, arith, inl, inr, eqb, cond, Result, Ok, Err}
+use Rattle.std.proofs.Common.{◌≡◌, ◌∙◌, ℕ, true, false, List, [], ◌∷◌, refl, ap, sym, subst, inl, inr, eqb, Result, Ok, Err}
 use Rattle.std.specs.Prelude.{◌⊎◌, ◌↔◌}
 use Rattle.std.specs.List.{AllZip}
 use Rattle.std.specs.Result.{IfErr, IfOk}
 use Rattle.glk_base.specs.declared.fault.Fault.{Fault}
 use Rattle.glk_base.specs.declared.fault.Fault.TheVariants.{Bad, OutOfMemory}
 use Rattle.glk_objtext.specs.Answers.{Gives}
-use Rattle.std.proofs.lemmas.Bool.{cases_Bool, cases_order, eqb-true, eqb-false, false≢true, true≢false}
+use Rattle.std.proofs.lemmas.Bool.{cases_Bool, cases_order, eqb-true, eqb-false}
 use Rattle.glk_base.specs.Lines.{lines, trimmed_line, is_skipped}
 use Rattle.glk_objdesc.specs.declared.desc.ObjDesc.{ObjDesc}
 use Rattle.glk_objtext.specs.Description.{description_of_lines, flags_from, fingerprint_from, no_fingerprint}
 use Rattle.glk_objtext.specs.Entries.{HoldsHeader}
 use Rattle.glk_objtext.specs.Fields.{fields, field_at}
-use Rattle.glk_objtext.specs.Grammar.{at_start, after, line_at}
+use Rattle.glk_objtext.specs.Grammar.{at_start, after}
 use Rattle.glk_objtext.specs.Reading.{onto_lines, read_lines, read_text, answer_of_lines}
 use Rattle.glk_objtext.specs.Kinds.{kind_word}
 use Rattle.glk_objtext.specs.Kinds.Kind.{object_line}
 use Rattle.glk_objtext.specs.Rules.Rule.{X2}
 use Rattle.glk_objtext.specs.Spelled.{BeginsWithHeader, HoldsObject, Spells}
 use Rattle.glk_objtext.specs.Values.{word_of_line}
-use Rattle.glk_objtext.specs.Rules.{next_number, IsRefusalOf, LineFields, Rule, rule_number, BreaksFirst, IsGoodLine, Says, SaysNothing, AreGoodLines, IsFirstBadLine, IsFirstBadOf}
+use Rattle.glk_objtext.specs.Rules.{next_number, IsRefusalOf, LineFields, Rule, rule_number, BreaksFirst, IsGoodLine, Says, AreGoodLines, IsFirstBadLine, IsFirstBadOf}
 use Rattle.glk_objtext.specs.declared.line.DefBlock.TheVariants.{Symdef, Hashed64def, Hasheddef, Nonpkgdef}
 use Rattle.glk_objtext.specs.declared.line.Line.{Line}
 use Rattle.glk_objtext.specs.declared.line.Line.TheVariants.{Header, Import, Package, Source, Symbol, Content, Relocation, Auxiliary, Reference, Flags, Named}

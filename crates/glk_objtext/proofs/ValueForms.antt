@@ -1,20 +1,13 @@
 -- What a line of each word reads as, by the text form: the values of its fields, or the rule of the
 -- first malformed one.
-use Rattle.std.proofs.Common.{◌≡◌, ◌∙◌, ℕ, ℤ, ◌^◌, ◌<◌, ◌≤◌, Bool, true, false, List, [], ◌∷◌, length, suc, refl, ap, sym, subst, arith, inl, inr, Result, Ok, Err}
+use Rattle.std.proofs.Common.{◌≡◌, ◌∙◌, ℕ, ◌^◌, ◌<◌, ◌≤◌, Bool, true, false, List, ◌∷◌, length, suc, refl, sym, arith, inl, inr, Result, Ok, Err}
 use Rattle.std.specs.Prelude.{◌⊎◌}
-use Rattle.std.proofs.lemmas.Bool.{false≢true, true≢false}
-use Rattle.glk_obj.specs.declared.records.AuxRec.{AuxRec}
-use Rattle.glk_obj.specs.declared.records.RefFlagsRec.{RefFlagsRec}
-use Rattle.glk_obj.specs.declared.records.RelocRec.{RelocRec}
-use Rattle.glk_obj.specs.declared.records.SymRef.{SymRef}
-use Rattle.glk_objdesc.specs.declared.desc.AutolibDesc.{AutolibDesc}
-use Rattle.glk_objdesc.specs.declared.desc.RefNameDesc.{RefNameDesc}
-use Rattle.glk_objdesc.specs.declared.desc.SymDesc.{SymDesc}
+use Rattle.std.proofs.lemmas.Bool.{false≢true}
 use Rattle.glk_objtext.specs.Entries.{HoldsHeader, HoldsAutolib, HoldsSymbol, HoldsReloc, HoldsAux, HoldsRefFlags, HoldsRefName}
 use Rattle.glk_objtext.specs.Fields.{field_at}
 use Rattle.glk_objtext.specs.Forms.{IsNumber, IsSigned, IsOctets, IsSized, IsReference, IsString}
-use Rattle.glk_objtext.specs.Kinds.{Sort, is_numeric, u8_sort, u16_sort, u32_sort, i32_sort, i64_sort, eight_bytes, symbol_sorts, IsOfSort, HasMalformed}
-use Rattle.glk_objtext.specs.Kinds.Sort.{number, signed, reference, text, octets, sized}
+use Rattle.glk_objtext.specs.Kinds.{Sort, is_numeric, symbol_sorts, IsOfSort, HasMalformed}
+use Rattle.glk_objtext.specs.Kinds.Sort.{number, signed, reference, text, sized}
 use Rattle.glk_objtext.specs.Numbers.{number_of, signed_of}
 use Rattle.glk_objtext.specs.Octets.{octets_of, sized_of}
 use Rattle.glk_objtext.specs.Strings.{string_of}

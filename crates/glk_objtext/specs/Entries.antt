@@ -1,5 +1,5 @@
 -- What a line of each word holds, field by field; the word is the field of number 0.
-use Rattle.std.specs.Prelude.{◌≡◌, ◌^◌, ℕ, List}
+use Rattle.std.specs.Prelude.{◌^◌, ℕ, List}
 use Rattle.glk_obj.specs.declared.records.AuxRec.{AuxRec}
 use Rattle.glk_obj.specs.declared.records.RefFlagsRec.{RefFlagsRec}
 use Rattle.glk_obj.specs.declared.records.RelocRec.{RelocRec}

@@ -1,5 +1,5 @@
 -- The text form, field by field: how fields stand in a line, and what a field of each sort spells.
-use Rattle.std.specs.Prelude.{◌≡◌, ◌<◌, ◌^◌, ℕ, ℤ, List, ◌∷◌, [], ◌++◌, length, true, decimal, ◌⊎◌}
+use Rattle.std.specs.Prelude.{◌≡◌, ◌<◌, ℕ, ℤ, List, ◌∷◌, [], ◌++◌, length, true, decimal, ◌⊎◌}
 use Rattle.std.specs.Fmt.{signed_decimal}
 use Rattle.std.specs.List.{All, concat}
 use Rattle.hex.specs.Hex.{encode_lower, IsBytes}

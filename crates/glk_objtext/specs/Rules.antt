@@ -1,5 +1,5 @@
 -- The text form as a whole: the rules of its lines, and the first line that breaks one.
-use Rattle.std.specs.Prelude.{◌≡◌, ◌<◌, ◌≤◌, ◌+◌, ◌-◌, ◌^◌, ◌⊎◌, min, ℕ, true, false, List, ◌∷◌, [], length}
+use Rattle.std.specs.Prelude.{◌≡◌, ◌<◌, ◌+◌, ◌-◌, ◌^◌, ◌⊎◌, min, ℕ, true, false, List, ◌∷◌, [], length}
 use Rattle.glk_base.specs.Lines.{lines, trimmed_line, is_skipped}
 use Rattle.glk_obj.specs.Rules.{shortest_hash, longest_hash}
 use Rattle.glk_objtext.specs.Fields.{field_at}

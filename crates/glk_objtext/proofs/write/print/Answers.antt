@@ -1,5 +1,4 @@
-use Rattle.std.proofs.Common.{◌≡◌, ◌∙◌}
-use Rattle.glk_objtext.specs.Text.{text_of}
+use Rattle.std.proofs.Common.{◌∙◌}
 use Rattle.glk_objtext.proofs.CanonicalLines.{text_is}
 use Rattle.glk_objtext.proofs.Joins.{text_joined}
 use Rattle.glk_objtext.proofs.write.print.Goals as goal
