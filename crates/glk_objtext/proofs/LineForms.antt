@@ -7,7 +7,7 @@ use Rattle.std.proofs.lemmas.Bool.{false≢true}
 use Rattle.glk_objtext.specs.Entries.{HoldsHeader, HoldsAutolib, HoldsString, HoldsSymbol, HoldsShortHash, HoldsLongHash, HoldsData, HoldsReloc, HoldsAux, HoldsRefFlags, HoldsRefName}
 use Rattle.glk_objtext.specs.Fields.{field_at}
 use Rattle.glk_objtext.specs.Kinds.{Sort, symbol_sorts, kind_sorts, HasMalformed}
-use Rattle.glk_objtext.specs.Kinds.Sort.{text, octets, sized}
+use Rattle.glk_objtext.specs.Kinds.Sort.{text, octets, octets_of_length}
 use Rattle.glk_objtext.specs.Octets.{octets_of}
 use Rattle.glk_objtext.specs.Strings.{string_of}
 use Rattle.glk_objtext.specs.Values.{value_of, as_line, short_hashed_of, long_hashed_of, header_of, import_of, symbol_of, reloc_of, aux_of, ref_flags_of, ref_name_of, word_of_line}
@@ -95,15 +95,15 @@ short_reads fs = elim (symbol_front fs) [
     | inl is ↦
         let e = s.1 in
         let d = is.1 in
-        inl (Symbol Hashed64def s.0 is.0, rw e (rw d refl), refl, (s.2, is.2), λ b h. elim (s.3 b (sized 8 ∷ []) h) [ inl bad ↦ bad.1 (is.0, is.2) | inr none ↦ none ])
+        inl (Symbol Hashed64def s.0 is.0, rw e (rw d refl), refl, (s.2, is.2), λ b h. elim (s.3 b (octets_of_length 8 ∷ []) h) [ inl bad ↦ bad.1 (is.0, is.2) | inr none ↦ none ])
     | inr lack ↦
         let e = s.1 in
         let d = lack.0 in
-        inr (inr (rw e (rw d refl), λ h. elim (s.3 true (sized 8 ∷ []) h) [ inl bad ↦ false≢true bad.0 | inr none ↦ none ], inr (inr (inr (inr (inr (inr (inr (inl (refl, λ here. lack.1 here.0 here.1))))))))))
+        inr (inr (rw e (rw d refl), λ h. elim (s.3 true (octets_of_length 8 ∷ []) h) [ inl bad ↦ false≢true bad.0 | inr none ↦ none ], inr (inr (inr (inr (inr (inr (inr (inl (refl, λ here. lack.1 here.0 here.1))))))))))
   ]
   | inr bad ↦ elim bad [
-    | inl five ↦ let e = five.0 in inr (inl (rw e refl, five.1 (sized 8 ∷ [])))
-    | inr six ↦ let e = six.0 in inr (inr (rw e refl, λ h. elim (six.1 (sized 8 ∷ []) h) [ inl bad ↦ false≢true bad.0 | inr none ↦ none ], six.2 (sized 8 ∷ [])))
+    | inl five ↦ let e = five.0 in inr (inl (rw e refl, five.1 (octets_of_length 8 ∷ [])))
+    | inr six ↦ let e = six.0 in inr (inr (rw e refl, λ h. elim (six.1 (octets_of_length 8 ∷ []) h) [ inl bad ↦ false≢true bad.0 | inr none ↦ none ], six.2 (octets_of_length 8 ∷ [])))
   ]
 ]
 

@@ -7,7 +7,7 @@ use Rattle.glk_objtext.specs.Entries.{HoldsHeader, HoldsAutolib, HoldsSymbol, Ho
 use Rattle.glk_objtext.specs.Fields.{field_at}
 use Rattle.glk_objtext.specs.Forms.{IsNumber, IsSigned, IsOctets, IsSized, IsReference, IsString}
 use Rattle.glk_objtext.specs.Kinds.{Sort, is_numeric, symbol_sorts, IsOfSort, HasMalformed}
-use Rattle.glk_objtext.specs.Kinds.Sort.{number, signed, reference, text, sized}
+use Rattle.glk_objtext.specs.Kinds.Sort.{number, signed_number, reference, text, octets_of_length}
 use Rattle.glk_objtext.specs.Numbers.{number_of, signed_of}
 use Rattle.glk_objtext.specs.Octets.{octets_of, sized_of}
 use Rattle.glk_objtext.specs.Strings.{string_of}
@@ -66,7 +66,7 @@ HeaderHolds fs (Header flags fingerprint) = HoldsHeader fs flags fingerprint
 HeaderHolds fs line = ⊥
 
 abbrev pub header_sorts : List Sort → List Sort
-header_sorts m = number (2 ^ 32) ∷ sized 8 ∷ m
+header_sorts m = number (2 ^ 32) ∷ octets_of_length 8 ∷ m
 
 pub header_front : (fs : List (List ℕ)) → Front (header_of fs) (HeaderHolds fs) header_sorts 3 fs
 unfolding header_of
@@ -77,14 +77,14 @@ header_front fs =
             | inl a1 ↦
                 let e0 = a0.1 in
                 let e1 = a1.1 in
-                inl (Header a0.0 a1.0, rw e0 (rw e1 (refl)), record { flags_field = a0.2; fingerprint_field = a1.2 }, λ b m h. (good b 2 (sized 8) (m) fs (a1.0, a1.2) (good b 1 (number (2 ^ 32)) (sized 8 ∷ m) fs (a0.0, a0.2) h)))
-            | inr b1 ↦ let e0 = a0.1 in let e1 = b1.0 in inr (inr (rw e0 (rw e1 (refl)), λ m h. (unasked true false 2 (sized 8) (m) fs refl false≢true (good true 1 (number (2 ^ 32)) (sized 8 ∷ m) fs (a0.0, a0.2) h)), λ m. inr (inl (refl, λ here. b1.1 here.0 here.1))))
+                inl (Header a0.0 a1.0, rw e0 (rw e1 (refl)), record { flags_field = a0.2; fingerprint_field = a1.2 }, λ b m h. (good b 2 (octets_of_length 8) (m) fs (a1.0, a1.2) (good b 1 (number (2 ^ 32)) (octets_of_length 8 ∷ m) fs (a0.0, a0.2) h)))
+            | inr b1 ↦ let e0 = a0.1 in let e1 = b1.0 in inr (inr (rw e0 (rw e1 (refl)), λ m h. (unasked true false 2 (octets_of_length 8) (m) fs refl false≢true (good true 1 (number (2 ^ 32)) (octets_of_length 8 ∷ m) fs (a0.0, a0.2) h)), λ m. inr (inl (refl, λ here. b1.1 here.0 here.1))))
           ]
       | inr b0 ↦ let e0 = b0.0 in inr (inl (rw e0 (refl), λ m. inl (refl, λ here. b0.1 here.0 here.1)))
     ]
 
 abbrev pub import_sorts : List Sort → List Sort
-import_sorts m = text ∷ sized 8 ∷ m
+import_sorts m = text ∷ octets_of_length 8 ∷ m
 
 pub import_front : (fs : List (List ℕ)) → Front (import_of fs) (HoldsAutolib fs) import_sorts 3 fs
 unfolding import_of
@@ -95,10 +95,10 @@ import_front fs =
             | inl a1 ↦
                 let e0 = a0.1 in
                 let e1 = a1.1 in
-                inl (record { path = a0.0; fingerprint = a1.0 }, rw e0 (rw e1 (refl)), record { path = a0.2; fingerprint = a1.2 }, λ b m h. (good b 2 (sized 8) (m) fs (a1.0, a1.2) (good b 1 text (sized 8 ∷ m) fs (a0.0, a0.2) h)))
-            | inr b1 ↦ let e0 = a0.1 in let e1 = b1.0 in inr (inr (rw e0 (rw e1 (refl)), λ m h. (unasked true false 2 (sized 8) (m) fs refl false≢true (good true 1 text (sized 8 ∷ m) fs (a0.0, a0.2) h)), λ m. inr (inl (refl, λ here. b1.1 here.0 here.1))))
+                inl (record { path = a0.0; fingerprint = a1.0 }, rw e0 (rw e1 (refl)), record { path = a0.2; fingerprint = a1.2 }, λ b m h. (good b 2 (octets_of_length 8) (m) fs (a1.0, a1.2) (good b 1 text (octets_of_length 8 ∷ m) fs (a0.0, a0.2) h)))
+            | inr b1 ↦ let e0 = a0.1 in let e1 = b1.0 in inr (inr (rw e0 (rw e1 (refl)), λ m h. (unasked true false 2 (octets_of_length 8) (m) fs refl false≢true (good true 1 text (octets_of_length 8 ∷ m) fs (a0.0, a0.2) h)), λ m. inr (inl (refl, λ here. b1.1 here.0 here.1))))
           ]
-      | inr b0 ↦ let e0 = b0.0 in inr (inr (rw e0 (refl), λ m h. (unasked true false 2 (sized 8) (m) fs refl false≢true (unasked true false 1 text (sized 8 ∷ m) fs refl false≢true h)), λ m. inl (refl, λ here. b0.1 here.0 here.1)))
+      | inr b0 ↦ let e0 = b0.0 in inr (inr (rw e0 (refl), λ m h. (unasked true false 2 (octets_of_length 8) (m) fs refl false≢true (unasked true false 1 text (octets_of_length 8 ∷ m) fs refl false≢true h)), λ m. inl (refl, λ here. b0.1 here.0 here.1)))
     ]
 
 pub symbol_front : (fs : List (List ℕ)) → Front (symbol_of fs) (HoldsSymbol fs) symbol_sorts 8 fs
@@ -142,7 +142,7 @@ symbol_front fs =
     ]
 
 abbrev pub reloc_sorts : List Sort → List Sort
-reloc_sorts m = signed (2 ^ 31) ∷ number (2 ^ 8) ∷ number (2 ^ 16) ∷ signed (2 ^ 63) ∷ reference ∷ m
+reloc_sorts m = signed_number (2 ^ 31) ∷ number (2 ^ 8) ∷ number (2 ^ 16) ∷ signed_number (2 ^ 63) ∷ reference ∷ m
 
 pub reloc_front : (fs : List (List ℕ)) → Front (reloc_of fs) (HoldsReloc fs) reloc_sorts 6 fs
 unfolding reloc_of
@@ -162,7 +162,7 @@ reloc_front fs =
                                   let e2 = a2.1 in
                                   let e3 = a3.1 in
                                   let e4 = a4.1 in
-                                  inl (record { off = a0.0; size = a1.0; kind = a2.0; add = a3.0; target = a4.0 }, rw e0 (rw e1 (rw e2 (rw e3 (rw e4 (refl))))), record { off = a0.2; size = a1.2; kind = a2.2; add = a3.2; target = a4.2 }, λ b m h. (good b 5 reference (m) fs (a4.0, a4.2) (good b 4 (signed (2 ^ 63)) (reference ∷ m) fs (a3.0, a3.2) (good b 3 (number (2 ^ 16)) (signed (2 ^ 63) ∷ reference ∷ m) fs (a2.0, a2.2) (good b 2 (number (2 ^ 8)) (number (2 ^ 16) ∷ signed (2 ^ 63) ∷ reference ∷ m) fs (a1.0, a1.2) (good b 1 (signed (2 ^ 31)) (number (2 ^ 8) ∷ number (2 ^ 16) ∷ signed (2 ^ 63) ∷ reference ∷ m) fs (a0.0, a0.2) h))))))
+                                  inl (record { off = a0.0; size = a1.0; kind = a2.0; add = a3.0; target = a4.0 }, rw e0 (rw e1 (rw e2 (rw e3 (rw e4 (refl))))), record { off = a0.2; size = a1.2; kind = a2.2; add = a3.2; target = a4.2 }, λ b m h. (good b 5 reference (m) fs (a4.0, a4.2) (good b 4 (signed_number (2 ^ 63)) (reference ∷ m) fs (a3.0, a3.2) (good b 3 (number (2 ^ 16)) (signed_number (2 ^ 63) ∷ reference ∷ m) fs (a2.0, a2.2) (good b 2 (number (2 ^ 8)) (number (2 ^ 16) ∷ signed_number (2 ^ 63) ∷ reference ∷ m) fs (a1.0, a1.2) (good b 1 (signed_number (2 ^ 31)) (number (2 ^ 8) ∷ number (2 ^ 16) ∷ signed_number (2 ^ 63) ∷ reference ∷ m) fs (a0.0, a0.2) h))))))
                               | inr b4 ↦ let e0 = a0.1 in let e1 = a1.1 in let e2 = a2.1 in let e3 = a3.1 in let e4 = b4.0 in inr (inl (rw e0 (rw e1 (rw e2 (rw e3 (rw e4 (refl))))), λ m. inr (inr (inr (inr (inl (refl, λ here. b4.1 here.0 here.1)))))))
                             ]
                         | inr b3 ↦ let e0 = a0.1 in let e1 = a1.1 in let e2 = a2.1 in let e3 = b3.0 in inr (inl (rw e0 (rw e1 (rw e2 (rw e3 (refl)))), λ m. inr (inr (inr (inl (refl, λ here. b3.1 here.0 here.1))))))

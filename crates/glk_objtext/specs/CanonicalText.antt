@@ -19,13 +19,15 @@ use Rattle.glk_objtext.specs.Octets.{octets_text}
 use Rattle.glk_objtext.specs.Strings.{string_text}
 use Rattle.glk_objtext.specs.Targets.{target_text}
 
--- a line of the kind: its word and its fields, each after a space
+-- a line of the kind: its word and its fields, each after a space, and a newline
 abbrev pub line_of : Kind → List (List ℕ) → List ℕ
 line_of kind fields = (kind_word kind ++ flat_map (λ field. space ∷ field) fields) ++ newline ∷ []
 
+-- the `object` line
 abbrev pub header_line_of : ℕ → List ℕ → List ℕ
 header_line_of flags fingerprint = line_of object_line (number_text flags ∷ octets_text fingerprint ∷ [])
 
+-- a line of `autolib`
 abbrev pub autolib_line_of : AutolibDesc → List ℕ
 autolib_line_of a = line_of autolib_line (string_text a.path ∷ octets_text a.fingerprint ∷ [])
 
@@ -46,15 +48,17 @@ hash_field_of hash64_line hash = octets_text hash ∷ []
 hash_field_of hash_line hash = octets_text hash ∷ []
 hash_field_of kind hash = []
 
--- no data have no line
+-- a line of `data`; no data have none
 abbrev pub data_line_of : List ℕ → List ℕ
 data_line_of [] = []
 data_line_of (b ∷ s) = line_of data_line (octets_text (b ∷ s) ∷ [])
 
+-- a line of `reloc`
 abbrev pub reloc_line_of : RelocRec → List ℕ
 reloc_line_of r =
     line_of reloc_line (signed_text r.off ∷ number_text r.size ∷ number_text r.kind ∷ signed_text r.add ∷ target_text r.target ∷ [])
 
+-- a line of `aux`
 abbrev pub aux_line_of : AuxRec → List ℕ
 aux_line_of a = line_of aux_line (number_text a.kind ∷ target_text a.target ∷ [])
 
@@ -64,9 +68,11 @@ definition_lines_of kind def =
     symbol_line_of kind def.sym (hash_field_of kind def.hash)
     ++ (data_line_of def.content ++ (flat_map reloc_line_of def.relocs ++ flat_map aux_line_of def.auxes))
 
+-- a line of `refflags`
 abbrev pub refflags_line_of : RefFlagsRec → List ℕ
 refflags_line_of r = line_of refflags_line (target_text r.target ∷ number_text r.flag ∷ number_text r.flag2 ∷ [])
 
+-- a line of `refname`
 abbrev pub refname_line_of : RefNameDesc → List ℕ
 refname_line_of r = line_of refname_line (target_text r.target ∷ string_text r.name ∷ [])
 

@@ -13,6 +13,7 @@ use Rattle.glk_objdesc.specs.Printable.{package_limit}
 
 -- Fields of a line.
 
+-- a space, and any other byte
 abbrev pub IsSpace : ℕ → Type 0
 IsSpace b = b ≡ space
 

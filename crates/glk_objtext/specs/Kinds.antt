@@ -89,20 +89,20 @@ may_begin kind = true
 -- of them or this one
 pub data Sort : Type 0 where
   number : ℕ → Sort
-  signed : ℕ → Sort
+  signed_number : ℕ → Sort
   reference : Sort
   text : Sort
   octets : Sort
-  sized : ℕ → Sort
+  octets_of_length : ℕ → Sort
 
 -- a number or a reference; the others are strings and bytes
 abbrev pub is_numeric : Sort → Bool
 is_numeric (number limit) = true
-is_numeric (signed limit) = true
+is_numeric (signed_number limit) = true
 is_numeric reference = true
 is_numeric text = false
 is_numeric octets = false
-is_numeric (sized n) = false
+is_numeric (octets_of_length n) = false
 
 -- numbers of one, two and four bytes, and with a sign of four and of eight
 abbrev pub u8_sort : Sort
@@ -115,14 +115,14 @@ abbrev pub u32_sort : Sort
 u32_sort = number (2 ^ 32)
 
 abbrev pub i32_sort : Sort
-i32_sort = signed (2 ^ 31)
+i32_sort = signed_number (2 ^ 31)
 
 abbrev pub i64_sort : Sort
-i64_sort = signed (2 ^ 63)
+i64_sort = signed_number (2 ^ 63)
 
 -- a fingerprint, and a short hash
 abbrev pub eight_bytes : Sort
-eight_bytes = sized 8
+eight_bytes = octets_of_length 8
 
 -- a symbol: its name, ABI, type, flag, flag2, size and alignment, and what follows them
 abbrev pub symbol_sorts : List Sort → List Sort
@@ -148,11 +148,11 @@ kind_sorts aux_line = u8_sort ∷ reference ∷ []
 -- the field spells something of the sort
 abbrev pub IsOfSort : Sort → List ℕ → Type 0
 IsOfSort (number limit) field = (n : ℕ) × IsNumber limit field n
-IsOfSort (signed limit) field = (z : ℤ) × IsSigned limit field z
+IsOfSort (signed_number limit) field = (z : ℤ) × IsSigned limit field z
 IsOfSort reference field = (r : SymRef) × IsReference field r
 IsOfSort text field = (s : List ℕ) × IsString field s
 IsOfSort octets field = (s : List ℕ) × IsOctets field s
-IsOfSort (sized n) field = (s : List ℕ) × IsSized n field s
+IsOfSort (octets_of_length n) field = (s : List ℕ) × IsSized n field s
 
 -- Some field from number k on is malformed: it is to be of one of these sorts, in their order, and
 -- of a numeric one or not as told.

@@ -14,6 +14,7 @@ use Rattle.glk_objtext.specs.declared.read.TextBad.{TextBad}
 abbrev pub LineFields : Type 0
 LineFields = List (List ℕ)
 
+-- a line of the kind: it begins with the kind's word
 abbrev pub IsOfKind : Kind → LineFields → Type 0
 IsOfKind kind fields = field_at fields 0 ≡ kind_word kind
 
