@@ -1,0 +1,10 @@
+pub mod Pushes
+pub mod EdgeChains
+pub mod StoredChains
+pub mod Counts
+pub mod Orders
+pub mod NoCycles
+pub mod Closing
+pub mod Starts
+pub mod Searches
+pub mod LevelLaws

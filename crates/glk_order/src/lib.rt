@@ -1,0 +1,15 @@
+//! The order in which tasks come: each after those that it waits for, the least ready one next.
+#![tactic(auto)]
+
+mod chains;
+mod components;
+mod cycles;
+mod edges;
+mod levels;
+mod order;
+mod search;
+#[cfg(test)]
+mod tests;
+
+pub use edges::Edge;
+pub use order::{Cycle, schedule};
