@@ -2,8 +2,8 @@
 //!
 //! `objects` gives the objects of a file in order where every member is whole and holds one, and else
 //! the first fault: member by member, of each first the rules of the archive, then the line of its
-//! object, then the rules of its data, and last the length of its long hashes. The objects are borrowed from the file, and are read
-//! without another check.
+//! object, then the rules of its data, and last the length of its long hashes. The objects are borrowed
+//! from the file, and are read without another check.
 #![tactic(auto)]
 
 mod file_refusal;

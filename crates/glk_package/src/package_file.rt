@@ -32,8 +32,8 @@ fn push_object<'b, 'a: 'b>(
     member: Member<'a>,
 ) -> Result<ObjectRules<'b>, Fault<PackageBad>>
     requires { body_at (entry_of member) + length member.body.now ≤ file_limit }
-    ensures ok { IfOk result (λ later.
-        AddsObjects (rules_view rules.entry) number (entry_of member.entry) objects.old.items objects.new.items (rules_view later)) }
+    ensures ok { IfOk result (λ later. AddsObjects (rules_view rules.entry) number (entry_of member.entry)
+        objects.old.items objects.new.items (rules_view later)) }
     ensures err { IfErr result
         (OrOutOfMemory (IsMemberFault (rules_view rules.entry) number (entry_of member.entry))) }
 {
