@@ -18,7 +18,7 @@ use Rattle.glk_keys.specs.Votes.{class_of}
 
 -- Tests.
 
-not_true : (b : Bool) → (b ≡ true → ⊥) → b ≡ false
+pub not_true : (b : Bool) → (b ≡ true → ⊥) → b ≡ false
 not_true true h = absurd (h refl)
 not_true false h = refl
 
@@ -112,13 +112,13 @@ module _ (p : Program) (k : ℕ) where
   is_defines q d f = both_are (is_definition (row_at p q)) (key_id p q == k) (class_tests (row_at p q) d f.class_is).0 (eq-eqb (key_id p q) k f.of_key)
 
   -- and with a further test
-  strong_is : (q : ℕ) → q < row_count p → (defines p k q && is_strong (row_at p q)) ≡ true → Defines p k q Strong
+  pub strong_is : (q : ℕ) → q < row_count p → (defines p k q && is_strong (row_at p q)) ≡ true → Defines p k q Strong
   strong_is q h e =
       let both = both_true (defines p k q) (is_strong (row_at p q)) e in
       let P : RankClass → Type 0 = λ c. Defines p k q c in
       subst P (ap (λ b. class_by b (is_shared (row_at p q))) both.1) (defines_is q h both.0)
 
-  is_strong_one : (q : ℕ) → Defines p k q Strong → (defines p k q && is_strong (row_at p q)) ≡ true
+  pub is_strong_one : (q : ℕ) → Defines p k q Strong → (defines p k q && is_strong (row_at p q)) ≡ true
   is_strong_one q f = both_are (defines p k q) (is_strong (row_at p q)) (is_defines q Strong f) (is_of_strong (is_strong (row_at p q)) (is_shared (row_at p q)) (class_tests (row_at p q) Strong f.class_is).1)
 
   is_shared_one : (q : ℕ) → Defines p k q Shared → (defines p k q && is_shared (row_at p q)) ≡ true

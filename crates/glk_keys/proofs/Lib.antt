@@ -1,5 +1,7 @@
 pub mod BlockLaws
 pub mod Choosing
+pub mod Clashing
+pub mod Electing
 pub mod HashLaws
 pub mod KeyNames
 pub mod ObjectLaws
