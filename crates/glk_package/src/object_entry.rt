@@ -130,7 +130,8 @@ pub(crate) fn object_in<'a>(
     at: u64,
 ) -> Result<ObjectEntry<'a>, Fault<PackageBad>>
     requires { at + length body.now ≤ file_limit }
-    ensures ok { IfOk result (IsObjectIn (rules_view rules.entry) member at (option_copied name.entry) body.now) }
+    ensures ok { IfOk result
+        (IsObjectIn (rules_view rules.entry) member at (option_copied name.entry) body.now) }
     ensures err { IfErr result (OrOutOfMemory (IsBodyFault (rules_view rules.entry) member at body.now)) }
 {
     let part = match object_part(body) {

@@ -65,7 +65,8 @@ fn objects_of_members<'a>(
 ) -> Result<Vec<ObjectEntry<'a>>, Fault<PackageBad>>
     requires { length file.now ≤ file_limit }
     ensures ok { IfOk result (λ objects. ArchiveFile (rules_view rules.entry) file.now (Ok objects.items)) }
-    ensures err { IfErr result (OrOutOfMemory (λ bad. ArchiveFile (rules_view rules.entry) file.now (Err bad))) }
+    ensures err { IfErr result
+        (OrOutOfMemory (λ bad. ArchiveFile (rules_view rules.entry) file.now (Err bad))) }
 {
     let mut walk = match members(file) {
         Ok(walk) => walk,
