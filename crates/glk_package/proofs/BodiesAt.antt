@@ -1,5 +1,5 @@
 -- Where what a package file holds is in it.
-use Rattle.std.proofs.Common.{◌≡◌, ◌≤◌, ◌<◌, ◌+◌, ◌-◌, ◌++◌, ℕ, List, [], length, take, drop, Option, subst, refl, ap, sym, ◌∙◌, length-append, arith, length-drop}
+use Rattle.std.proofs.Common.{◌≡◌, ◌≤◌, ◌+◌, ◌++◌, ℕ, List, [], length, take, drop, Option, subst, refl, ap, sym, ◌∙◌, length-append, arith, length-drop}
 use Rattle.std.proofs.lemmas.List.{drop-drop, append-nil, take-append-drop}
 use Rattle.std.proofs.lemmas.Bool.Decides.{Decides-eqb}
 use Rattle.std.proofs.lemmas.Slice.Eq.{starts_is}

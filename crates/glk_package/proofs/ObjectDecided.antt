@@ -1,5 +1,5 @@
 -- Bytes are an object, or break a rule first.
-use Rattle.std.proofs.Common.{◌≡◌, ◌+◌, ◌-◌, ◌*◌, ◌%◌, ◌/◌, ◌<◌, ◌≤◌, ◌==◌, ◌^◌, ◌⊎◌, inl, inr, ℕ, List, length, arith, subst, sym, refl, MatchBool, slice_index_or, if◌then◌else◌}
+use Rattle.std.proofs.Common.{◌≡◌, ◌+◌, ◌-◌, ◌*◌, ◌%◌, ◌<◌, ◌≤◌, ◌==◌, ◌^◌, ◌⊎◌, inl, inr, ℕ, List, length, arith, subst, sym, slice_index_or, if◌then◌else◌}
 use Rattle.std.specs.List.{starts_with}
 use Rattle.std.specs.Prelude.{nat_eq, bit_and}
 use Rattle.std.proofs.lemmas.Bool.{cases_eq}
@@ -11,9 +11,9 @@ use Rattle.glk_obj.specs.Records.{symbols, definitions, flags, symbol_at, symbol
 use Rattle.glk_obj.specs.References.{PassesEnd, HoldsNul, in_range, IsOutOfRangeAt}
 use Rattle.glk_obj.specs.Fields.{HasField, field_offset, shift_of}
 use Rattle.glk_obj.specs.Object.{IsObject}
-use Rattle.glk_obj.specs.Rules.{IsShort, HasOtherMagic, IsMisplaced, HasMisplacedBlock, EndsLate, IsUneven, HasUnevenBlock, unlinkable_bit, IsUnlinkable, HasOddHash64, shortest_hash, longest_hash, HashesFit, HasOddHash, IsTable, pointed_block, HasShortTable, IsBadEntry, TableFault, HasBadEntry, HasStringPastEnd, HasStringWithNul, HasTargetOutOfRange, IsContentKind, HasContent, HasExcessData, HasLongData, IsFieldOutside, IsStray, RelocFault, HasStrayReloc, IsAlign, IsOddlyAligned, HasOddAlign, Breaks}
+use Rattle.glk_obj.specs.Rules.{IsShort, HasOtherMagic, IsMisplaced, HasMisplacedBlock, EndsLate, IsUneven, HasUnevenBlock, unlinkable_bit, IsUnlinkable, HasOddHash64, shortest_hash, longest_hash, HashesFit, HasOddHash, IsTable, pointed_block, HasShortTable, IsBadEntry, TableFault, HasBadEntry, HasStringPastEnd, HasStringWithNul, HasTargetOutOfRange, HasContent, HasExcessData, HasLongData, IsFieldOutside, IsStray, RelocFault, HasStrayReloc, IsAlign, IsOddlyAligned, HasOddAlign, Breaks}
 use Rattle.glk_obj.proofs.Objects.{object}
-use Rattle.glk_package.proofs.Decided.{IsDecided, all_of, one_of, negated, below, at_most, is_true, is_false, if_same, matched, some_below, HasLeast, same_least, least_at, least_match, least_record, least_group, first_rule}
+use Rattle.glk_package.proofs.Decided.{IsDecided, all_of, one_of, negated, below, at_most, is_false, if_same, matched, some_below, HasLeast, same_least, least_at, least_match, least_record, least_group, first_rule}
 
 misplaced : (b : List ℕ) (k : ℕ) → IsDecided (IsMisplaced b k)
 misplaced b k = one_of _ _ (below (offset_of b k) header_length) (all_of _ _ (below 0 k) (below (offset_of b k) (offset_of b (k - 1))))

@@ -1,5 +1,5 @@
 -- There is one answer for a package file.
-use Rattle.std.proofs.Common.{◌≡◌, ℕ, ◌+◌, ◌<◌, List, [], ◌∷◌, ◌++◌, length, drop, Bool, true, false, MatchBool, Option, Some, None, Result, Ok, Err, ap, subst, sym, refl, ◌∙◌, inl, inr, add-zero, zero-add, arith}
+use Rattle.std.proofs.Common.{◌≡◌, ℕ, ◌+◌, ◌<◌, List, [], ◌∷◌, ◌++◌, length, Bool, true, false, MatchBool, Option, Some, None, Result, Ok, Err, ap, subst, sym, refl, ◌∙◌, inl, inr, add-zero, zero-add, arith}
 use Rattle.std.proofs.lemmas.Bool.{cases_order}
 use Rattle.std.specs.List.{starts_with}
 use Rattle.std.specs.Prelude.{nat_eq}

@@ -1,14 +1,13 @@
 -- There is an answer for each package file.
-use Rattle.std.proofs.Common.{◌≡◌, ℕ, zero, suc, ◌+◌, ◌-◌, ◌<◌, ◌≤◌, ◌==◌, ◌⊎◌, List, [], ◌∷◌, ◌++◌, length, drop, Bool, true, false, MatchBool, Option, Some, None, Result, Ok, Err, ap, subst, sym, refl, ◌∙◌, inl, inr, add-zero, zero-add, length-append, arith, min}
+use Rattle.std.proofs.Common.{◌≡◌, ℕ, zero, suc, ◌+◌, ◌<◌, ◌≤◌, ◌==◌, ◌⊎◌, List, [], ◌∷◌, ◌++◌, length, drop, Bool, true, false, MatchBool, Option, Some, None, Result, Ok, Err, ap, subst, sym, refl, ◌∙◌, inl, inr, add-zero, zero-add, length-append, arith}
 use Rattle.std.specs.List.{starts_with, ends_with, before_first}
 use Rattle.std.specs.Prelude.{nat_eq}
 use Rattle.std.specs.Str.Parse.{AllDigits}
 use Rattle.std.specs.Char.{digit_value}
-use Rattle.std.proofs.lemmas.Bool.{cases_lt, cases_eq, cases_Bool, eqb-true}
+use Rattle.std.proofs.lemmas.Bool.{cases_lt, cases_eq, eqb-true}
 use Rattle.std.proofs.lemmas.Bool.Decides.{Decides-eqb}
 use Rattle.std.proofs.lemmas.Slice.Eq.{starts_is}
 use Rattle.glk_base.specs.declared.rules.RuleFamily.TheVariants as family
-use Rattle.glk_base.specs.Least.{IsLeast}
 use Rattle.glk_base.specs.Rules.{FirstBroken}
 use Rattle.glk_ar.specs.declared.walk.ArBad.{ArBad}
 use Rattle.glk_ar.specs.Member.{Keeps, BreaksFirst, IsMember, HasHeader, HasEnd, HasSize, HasBody, HasPlainName, header_of, header_end, header_length, size_of, size_field, name_of, system_v_name, bsd_name, rule_offset}
@@ -23,8 +22,8 @@ use Rattle.glk_package.specs.declared.refusal.PackageBad.TheVariants as bad
 use Rattle.glk_package.specs.HeaderRule.{HeaderRule, any, uniform, exactly, Allows, IsMismatch}
 use Rattle.glk_package.specs.WidthRule.{WidthRule, any_width, uniform_width, exactly_width, FitsWidth}
 use Rattle.glk_package.specs.ObjectRules.{ObjectRules, rules_after}
-use Rattle.glk_package.specs.Members.{IsObjectIn, IsBodyFault, width_rule, description, IsSkipped, AreObjectsOf, AreObjects, IsMemberFault, archive_fault}
-use Rattle.glk_package.specs.Package.{bare_start, AreMembers, IsFaultAt, ArchiveFile, BareFile, PackageFile}
+use Rattle.glk_package.specs.Members.{IsObjectIn, IsBodyFault, width_rule, description, IsSkipped, AreObjectsOf, archive_fault}
+use Rattle.glk_package.specs.Package.{bare_start, IsFaultAt, ArchiveFile, BareFile, PackageFile}
 use Rattle.glk_package.specs.ObjectEntry.{ObjectEntry}
 use Rattle.glk_package.proofs.BodiesAt.{mark_inside}
 use Rattle.glk_package.proofs.RuleAfter.{after_none, after_both}

@@ -1,5 +1,5 @@
 -- A package file: a bare object, or an archive whose members hold objects.
-use Rattle.std.specs.Prelude.{◌≡◌, ◌+◌, ◌⊎◌, ℕ, List, [], ◌∷◌, length, codes, nat_eq, None, Result, Ok, Err, MatchBool}
+use Rattle.std.specs.Prelude.{◌≡◌, ◌⊎◌, ℕ, List, [], ◌∷◌, length, codes, nat_eq, None, Result, Ok, Err, MatchBool}
 use Rattle.std.specs.List.{starts_with}
 use Rattle.glk_base.specs.declared.fault.Fault.{Fault}
 use Rattle.glk_base.specs.declared.fault.Fault.TheVariants as fault
