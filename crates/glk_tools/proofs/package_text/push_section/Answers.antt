@@ -7,7 +7,7 @@ use Rattle.glk_tools.proofs.package_text.push_section.Goals as goal
 pub returns : goal.returns
 returns c =
     let described = c.in_ok-description.ensures ∙ ap description_of c.view.ensures.value in
-    let body = c.in_ok-body.ensures ∙ ap text_of described in
+    let body = c.in_ok-body.ensures.lines ∙ ap text_of described in
     pushed c.args.object.now c.args.text.now.items c.extend_from_slice.new.self.items c.extend_from_slice-2.new.self.items
     c.extend_from_slice-3.new.self.items c.extend_from_slice-4.new.self.items c.in_ok-body.body.items
     c.in_ok-extend_from_slice.ensures.items
