@@ -1,5 +1,5 @@
 -- What a poll of the rows answers, in words of definitions.
-use Rattle.std.proofs.Common.{◌≡◌, ℕ, ◌^◌, ◌<◌, ◌≤◌, inl, inr, Bool, true, false, length, get_or, sym, ap, ◌∙◌, refl, subst, arith, Option, Some, None, true≢false}
+use Rattle.std.proofs.Common.{◌≡◌, ℕ, ◌^◌, ◌<◌, ◌≤◌, ◌⊎◌, inl, inr, Bool, true, false, length, get_or, sym, ap, ◌∙◌, refl, subst, arith, Option, Some, None, true≢false}
 use Rattle.std.specs.Option.{option_map, option_map_or}
 use Rattle.std.proofs.lemmas.Bool.{cases_lt}
 use Rattle.glk_table.specs.Ranks.{rank_of, id_in, class_in, class_number}
@@ -115,3 +115,27 @@ module _ (p : Program) (few : row_count p ≤ row_limit) (id : ℕ) (h : id < ro
 
   pub none_at_all : IsLeastRankOf (keys_of p) (votes_of p) id None → (q : ℕ) → Defines p (key_id p id) q Strong → ⊥
   none_at_all l q f = l q _ (votes q Strong f)
+
+  -- a strong definition has its load position as its rank, and no other has so low a rank
+  strong_rank : (size a : ℕ) → rank_of Strong size a ≡ a
+  strong_rank size a = omega arith
+
+  by_class : (c : RankClass) (a rank : ℕ) → rank ≡ rank_of c (size_at p a) a → Defines p (key_id p id) a c → ((q : ℕ) → Defines p (key_id p id) q Strong → rank ≤ q) → IsLeastStrong p (key_id p id) rank ⊎ ((q : ℕ) → Defines p (key_id p id) q Strong → ⊥)
+  by_class Strong a rank e f low =
+      let same : a ≡ rank = sym (e ∙ strong_rank (size_at p a) a) in
+      let P : ℕ → Type 0 = λ i. Defines p (key_id p id) i Strong in
+      inl (record { strong = subst P same f; least = low })
+  by_class Shared a rank e f low = inr (λ q g. let m = low q g in let r = g.row in omega arith)
+  by_class Other a rank e f low = inr (λ q g. let m = low q g in let r = g.row in omega arith)
+
+  -- the least rank is that of the least strong definition, or there is none
+  pub least_of : (rank : ℕ) → IsLeastRankOf (keys_of p) (votes_of p) id (Some rank) → IsLeastStrong p (key_id p id) rank ⊎ ((q : ℕ) → Defines p (key_id p id) q Strong → ⊥)
+  least_of rank l =
+      let by = voter l.0.0 l.0.1 l.0.2 in
+      let a = l.0.0 in
+      let is_rank : rank ≡ rank_of by.class (size_at p a) a = sym l.0.3 ∙ by.rank_is in
+      let low : (q : ℕ) → Defines p (key_id p id) q Strong → rank ≤ q = λ q f.
+          let m = l.1 q _ (votes q Strong f) in
+          let e = strong_rank (size_at p q) q in
+          omega (arith, m, e) in
+      by_class by.class a rank is_rank by.defines low

@@ -4,6 +4,7 @@ pub mod Clashing
 pub mod Electing
 pub mod HashLaws
 pub mod KeyNames
+pub mod MadeLaws
 pub mod ObjectLaws
 pub mod OwnLaws
 pub mod Ranges

@@ -1,8 +1,13 @@
 // The names that the linker gives to places of the image.
-ghost use Rattle.std.specs.Prelude.{◌≡◌, ◌<◌, map};
+ghost use Rattle.std.specs.Prelude.{◌≡◌, ◌<◌, ◌≤◌, map, length, IfSome};
+ghost use Rattle.std.specs.List.{position, position_or_len};
+ghost use Rattle.std.specs.Str.{bytes_eq};
+ghost use Rattle.glk_keys.specs.Definitions.{made_number as number_of_made};
+ghost use Rattle.glk_keys.specs.Views.{key_view};
 ghost use Rattle.glk_keys.specs.MadeNames.{made_names, made_count};
 ghost use Rattle.glk_keys.specs.MadeViews.{made_view, made_at};
 
+use crate::keys::SymbolKey;
 use glk_elf::Section;
 
 /// Which place of its section a made name is.
@@ -44,6 +49,8 @@ const SLICE_SIZE: u32 = 24;
 
 // What a thread has of its own.
 const TLS_SIZE: u32 = 8;
+
+const ABI0: u16 = 0;
 
 /// How many made names there are.
 pub const MADE_COUNT: u32 = 27;
@@ -225,9 +232,54 @@ fn nth(table: &[MadeName], k: usize) -> MadeName
 
 /// Made name `k`, from 0.
 #[tactic(auto, unfolding(crate::specs::MadeNames::made_names))]
-pub fn made_name(k: u32) -> MadeName
+pub fn made_name(k: u8) -> MadeName
     requires { k < made_count }
     ensures { made_view result ≡ made_at k }
 {
     nth(&TABLE, k as usize)
+}
+
+// The index of the first made name in a table that is this name, or the length where none is.
+fn first_named(table: &[MadeName], name: &[u8]) -> usize
+    ensures place { result ≡ position_or_len (λ m. bytes_eq name.now m.name.now) table.now }
+    ensures inside { result ≤ length table.now }
+{
+    for (k, made) in table.iter().enumerate() {
+        if name == made.name.as_bytes() {
+            return k;
+        }
+    }
+    table.len()
+}
+
+// The number of the made name in a table that is this name, if one is.
+fn number_in(table: &[MadeName], name: &[u8]) -> Option<u8>
+    requires { map made_view table.now ≡ made_names }
+    ensures number { result ≡ position (λ m. bytes_eq name.now m.name) made_names }
+    ensures inside { IfSome result (λ k. k < made_count) }
+{
+    let k = first_named(table, name);
+    if k < MADE_COUNT as usize {
+        Some(k as u8)
+    } else {
+        None
+    }
+}
+
+/// The number of the made name that a key is, if it is one: a made name has ABI0.
+#[tactic(auto, unfolding(crate::specs::MadeNames::made_names))]
+pub fn made_number(key: SymbolKey<'_>) -> Option<u8>
+    ensures number { result ≡ number_of_made (key_view key.entry) }
+    ensures inside { IfSome result (λ k. k < made_count) }
+{
+    match key {
+        SymbolKey::Named { name, abi } => {
+            if abi == ABI0 {
+                number_in(&TABLE, name)
+            } else {
+                None
+            }
+        }
+        _ => None,
+    }
 }

@@ -69,7 +69,7 @@ pub(crate) fn made(k: u32) -> SymRec<'static>
     requires { k < made_count }
     ensures { symbol_view result ≡ made_symbol (made_at k) }
 {
-    let made = made_name(k);
+    let made = made_name(k as u8);
     bare(made.name.as_bytes(), ABI0, made.size)
 }
 

@@ -3,9 +3,11 @@ ghost use Rattle.std.specs.Prelude.{◌≡◌, ◌<◌, ◌≤◌, ◌-◌, ◌^
 ghost use Rattle.glk_arena.specs.World.{objects_of, symbol_count};
 ghost use Rattle.glk_base.specs.Groups.{group_start};
 ghost use Rattle.glk_keys.specs.Blocks.{starts_of};
+ghost use Rattle.glk_keys.specs.Choices.{SizesFit};
 ghost use Rattle.glk_keys.specs.Packages.{package_path};
 ghost use Rattle.glk_keys.specs.Programs.{program_of};
-ghost use Rattle.glk_keys.specs.Rows.{object_at, object_row, own_symbols, no_symbol, row_at, row_count, row_limit};
+ghost use Rattle.glk_keys.specs.Rows.{object_at, object_row, own_symbols, no_symbol, row_at, row_count, row_limit, made_row};
+ghost use Rattle.glk_keys.specs.MadeNames.{made_count};
 ghost use Rattle.glk_obj.specs.Object.{IsObject};
 ghost use Rattle.glk_obj.specs.Records.{symbols};
 ghost use Rattle.glk_obj.specs.Views.{symbol_view};
@@ -167,6 +169,24 @@ impl<'a> Rows<'a> {
             self.object(ObjId(at.object)).sym(at.index)
         } else {
             self.own(id.0 - of_objects)
+        }
+    }
+
+    /// The row of made name `k`.
+    #[tactic(auto, unfolding(crate::specs::Rows::made_row))]
+    pub fn made_row(&self, k: u8) -> SymId
+        requires { k < made_count }
+        ensures { result.0 ≡ made_row self.now k }
+    {
+        SymId(self.of_objects() + ASKED_COUNT + k as u32)
+    }
+
+    /// The size of each row's symbol has 32 bits: a law over all rows, which costs a look at each.
+    pub fn sizes_fit(&self)
+        ensures { SizesFit self.now }
+    {
+        for id in 0..self.count() {
+            let _size = self.row(SymId(id)).size;
         }
     }
 
