@@ -18,7 +18,7 @@ use Rattle.glk_package.specs.declared.refusal.PackageBad.{PackageBad}
 use Rattle.glk_package.specs.declared.refusal.PackageBad.TheVariants as bad
 use Rattle.glk_tools.specs.PackageText.{IsPackageText}
 use Rattle.glk_tools.specs.Stdout.{stdout, Prints}
-use Rattle.glk_package.specs.PackageRefusal.{refusal_of, IsFaultOfFile}
+use Rattle.glk_package.specs.PackageRefusal.{refusal_of}
 use Rattle.glk_tools.specs.Dump.{package_limit, IsTextOf, GivesText, IsOneDump, IsOfPackageFile, PackageAnswer, DumpAllows, DumpAnswer, DumpUnlessIoFails}
 use Rattle.glk_tools.proofs.Sections.{one_text}
 use Rattle.glk_tools.proofs.MustAnswers.{printing_must}
@@ -59,12 +59,6 @@ broken_file : (path : List ℕ) (broken : PackageBad) → IsOfPackageFile path (
 broken_file path (bad.NotGo member) = (refl, tt)
 broken_file path (bad.HeaderMismatch member first here) = (refl, tt)
 broken_file path (bad.Malformed member family rule offset) = (refl, tt)
-
--- a file with a fault has this refusal as its text, or memory was wanting
-pub not_made : (path file : List ℕ) (broken : PackageBad) (stop : Fault Cause) → IsPackageText file (Err broken) → IsFaultOfFile path broken stop
-    → Answers (IsTextOf path file) (λ (text : Vec ℕ Global). text.items) (Err stop)
-not_made path file broken (fault.Bad refusal) is names = (broken, is, names)
-not_made path file broken fault.OutOfMemory is names = tt
 
 file_only : (path file : List ℕ) (refusal : Cause) → IsTextOf path file (Err refusal) → IsOfPackageFile path (sort_of refusal) × IsPure (sort_of refusal)
 file_only path file refusal h = subst (λ (c : Cause). IsOfPackageFile path (sort_of c) × IsPure (sort_of c)) (sym h.2) (broken_file path h.0)
