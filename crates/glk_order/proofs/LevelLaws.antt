@@ -20,9 +20,6 @@ pub record AreLevels (edges : List Edge) (levels : List ℕ) (n : ℕ) (least : 
   pub no_higher : (e : ℕ) → e < n → level_of levels (edge_at edges e).target ≤ level_of levels (edge_at edges e).task
   pub within : (e : ℕ) → e < n → level_of levels (edge_at edges e).target ≡ level_of levels (edge_at edges e).task → IsLeastOf least (edge_at edges e).task
 
-pub start_levels : (edges : List Edge) (levels : List ℕ) → AreLevels edges levels 0 None
-start_levels edges levels = record { no_higher = λ e low. absurd (omega arith); within = λ e low same. absurd (omega arith) }
-
 edge_not_higher : (edges : List Edge) (levels : List ℕ) (least : Option ℕ) → AreLevels edges levels (length edges) least → (from to : ℕ) → Needs edges from to → level_of levels to ≤ level_of levels from
 edge_not_higher edges levels least a from to need =
     let found : (n : ℕ) × IsEdge edges from to n = needs_edge edges from to need in

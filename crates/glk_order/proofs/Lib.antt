@@ -3,6 +3,7 @@ pub mod EdgeChains
 pub mod StoredChains
 pub mod Counts
 pub mod Orders
+pub mod OneOrder
 pub mod NoCycles
 pub mod Closing
 pub mod Starts

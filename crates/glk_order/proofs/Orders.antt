@@ -1,5 +1,5 @@
 -- Lists in order: a task more at the end, and marks for what is listed.
-use Rattle.std.proofs.Common.{◌≡◌, ◌+◌, ◌<◌, ◌≤◌, ◌∙◌, ◌++◌, inl, inr, ℕ, Bool, true, false, cond, not, List, [], ◌∷◌, length, get_or, take, set, replicate, refl, ap, sym, subst, arith}
+use Rattle.std.proofs.Common.{◌≡◌, ◌+◌, ◌<◌, ◌∙◌, ◌++◌, inl, inr, ℕ, Bool, true, false, cond, not, List, [], ◌∷◌, length, get_or, take, set, replicate, refl, ap, sym, subst, arith}
 use Rattle.std.specs.List.{Contains, count_by}
 use Rattle.std.proofs.lemmas.Bool.{both_ways, cases_eq, cases_lt}
 use Rattle.std.proofs.lemmas.List.{get_or-set_same, get_or-set_other, take_at, take-append-le, length_push, get_or-replicate, get_or_past, length-replicate}
@@ -10,16 +10,12 @@ use Rattle.glk_order.specs.Order.{Needs, IsReady, IsNext, InOrder}
 use Rattle.glk_order.specs.Progress.{is_listed, AreMarks}
 use Rattle.glk_order.proofs.Pushes.{at_front, at_end}
 
--- a list that one more task is pushed to
-pub take_pushed : (list : List ℕ) (t i : ℕ) → i ≤ length list → take i (list ++ t ∷ []) ≡ take i list
-take_pushed list t i low = take-append-le i list (t ∷ []) low
-
 -- the next task is pushed
 pub InOrder-push : (count : ℕ) (edges : List Edge) (list : List ℕ) (t : ℕ) → InOrder count edges list → IsNext count edges list t → InOrder count edges (list ++ t ∷ [])
 InOrder-push count edges list t order next = λ i inside. elim (cases_lt i (length list)) [
   | inl low ↦ (
       let first : IsNext count edges (take i (list ++ t ∷ [])) (get_or list i 0) =
-      subst (λ (l : List ℕ). IsNext count edges l (get_or list i 0)) (sym (take_pushed list t i (omega arith))) (order i low) in
+      subst (λ (l : List ℕ). IsNext count edges l (get_or list i 0)) (sym (take-append-le i list (t ∷ []) (omega arith))) (order i low) in
       subst (IsNext count edges (take i (list ++ t ∷ []))) (sym (at_front list t i low)) first)
   | inr high ↦ (
       let last : length list ≡ i = omega (arith, length_push list t) in

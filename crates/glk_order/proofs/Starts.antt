@@ -1,16 +1,14 @@
 -- The counts and the ready tasks before anything is listed.
-use Rattle.std.proofs.Common.{◌≡◌, ◌+◌, ◌<◌, ◌≤◌, ◌∙◌, ◌&&◌, inl, inr, ℕ, Bool, true, false, cond, not, List, length, get_or, set, replicate, take, refl, ap, sym, subst, arith, eqb, ltb}
+use Rattle.std.proofs.Common.{◌≡◌, ◌+◌, ◌<◌, ◌≤◌, ◌∙◌, ◌&&◌, inl, inr, ℕ, Bool, true, false, cond, not, List, length, get_or, set, take, refl, ap, sym, subst, arith, eqb, ltb}
 use Rattle.std.specs.List.{count_by}
-use Rattle.std.specs.BTreeSet.{BTreeSet, IsEmpty, Updates}
-use Rattle.std.specs.Ordering.{nat_cmp}
-use Rattle.std.proofs.lemmas.Bool.{eqb-true, eq-eqb, ne_eqb, cases_eq}
-use Rattle.std.proofs.lemmas.List.{get_or-set_same, get_or-set_other, get_or-replicate, length-replicate, length-set, length-take, take_all}
+use Rattle.std.specs.BTreeSet.{BTreeSet}
+use Rattle.std.proofs.lemmas.Bool.{eq-eqb, ne_eqb, cases_eq}
+use Rattle.std.proofs.lemmas.List.{get_or-set_same, get_or-set_other, length-set, length-take, take_all}
 use Rattle.std.proofs.lemmas.List.Sums.{sum_by_more, count_by-le-length}
 use Rattle.glk_order.specs.declared.edges.Edge.{Edge}
 use Rattle.glk_order.specs.Chains.{no_edge, edge_at}
-use Rattle.glk_order.specs.Progress.{is_listed, is_in, is_open, AreOpen, AreReady}
+use Rattle.glk_order.specs.Progress.{is_listed, is_in, is_open, AreOpen}
 use Rattle.glk_order.proofs.Counts.{one_if, count_same}
-use Rattle.glk_order.proofs.Closing.{not_at, and_both}
 
 -- how many of the edges are the task's
 abbrev pub edges_of : List Edge → ℕ → ℕ
@@ -20,12 +18,6 @@ edges_of edges task = count_by (λ e. eqb e.task task) edges
 pub record AreCounted (count : ℕ) (edges : List Edge) (n : ℕ) (counts : List ℕ) : Type 0 where
   pub size : length counts ≡ count
   pub each : (task : ℕ) → task < count → get_or counts task 0 ≡ edges_of (take n edges) task
-
-pub start_counted : (count : ℕ) (edges : List Edge) (counts : List ℕ) → counts ≡ replicate count 0 → AreCounted count edges 0 counts
-start_counted count edges counts is = record {
-  size = ap length is ∙ length-replicate count 0;
-  each = λ task inside. ap (λ (l : List ℕ). get_or l task 0) is ∙ get_or-replicate count task 0 0 inside;
-}
 
 pub counted_few : (count : ℕ) (edges : List Edge) (n : ℕ) (counts : List ℕ) (task : ℕ) → AreCounted count edges n counts → task < count → get_or counts task 0 ≤ n
 counted_few count edges n counts task h inside =
@@ -71,50 +63,3 @@ all_counted count edges n counts listed h whole none = record {
 -- the first n tasks are looked at: the set has those without an edge
 abbrev pub AreFirst : ℕ → List ℕ → BTreeSet ℕ → Type 0
 AreFirst n counts ready = (task : ℕ) → is_in ready task ≡ (ltb task n && eqb (get_or counts task 0) 0)
-
-pub start_first : (counts : List ℕ) (ready : BTreeSet ℕ) → IsEmpty ready → AreFirst 0 counts ready
-start_first counts ready empty = λ task. grind (arith, empty)
-
-ltb_other : (task n : ℕ) → (task ≡ n → ⊥) → ltb task (n + 1) ≡ ltb task n
-ltb_other task n apart = grind arith
-
-ltb_same : (task n : ℕ) → task ≡ n → ltb task (n + 1) ≡ true
-ltb_same task n same = grind arith
-
-ltb_not : (task n : ℕ) → task ≡ n → ltb task n ≡ false
-ltb_not task n same = grind arith
-
-pub more_first : (n : ℕ) (counts : List ℕ) (ready now : BTreeSet ℕ) → AreFirst n counts ready → get_or counts n 0 ≡ 0 → Updates nat_cmp ready now n true → AreFirst (n + 1) counts now
-more_first n counts ready now h none updates = λ task. elim (cases_eq task n) [
-  | inl same ↦ (
-      let there : is_in now n ≡ true = updates.1 in
-      let zero_ : get_or counts task 0 ≡ 0 = subst (λ (t : ℕ). get_or counts t 0 ≡ 0) (sym same) none in
-      subst (λ (t : ℕ). is_in now t ≡ true) (sym same) there ∙ sym (ap (λ b. b && eqb (get_or counts task 0) 0) (ltb_same task n same) ∙ eq-eqb _ _ zero_))
-  | inr other ↦ updates.2 task (not_at n task other) ∙ h task ∙ ap (λ b. b && eqb (get_or counts task 0) 0) (sym (ltb_other task n other))
-]
-
-pub same_first : (n : ℕ) (counts : List ℕ) (ready : BTreeSet ℕ) → AreFirst n counts ready → (get_or counts n 0 ≡ 0 → ⊥) → AreFirst (n + 1) counts ready
-same_first n counts ready h some = λ task. elim (cases_eq task n) [
-  | inl same ↦ (
-      let more : eqb (get_or counts task 0) 0 ≡ false = ne_eqb _ _ (λ z. some (subst (λ (t : ℕ). get_or counts t 0 ≡ 0) same z)) in
-      h task ∙ ap (λ b. ltb task n && b) more ∙ and_false (ltb task n) ∙ sym (ap (λ b. ltb task (n + 1) && b) more ∙ and_false (ltb task (n + 1))))
-  | inr other ↦ h task ∙ ap (λ b. b && eqb (get_or counts task 0) 0) (sym (ltb_other task n other))
-]
-  where
-    and_false : (b : Bool) → (b && false) ≡ false
-    and_false true = refl
-    and_false false = refl
-
-ltb_lt : (a b : ℕ) → ltb a b ≡ true → a < b
-ltb_lt a b h = grind (arith, h)
-
-lt_ltb : (a b : ℕ) → a < b → ltb a b ≡ true
-lt_ltb a b h = grind (arith, h)
-
-pub all_first : (n : ℕ) (counts : List ℕ) (ready : BTreeSet ℕ) (listed : List Bool) → AreFirst n counts ready → n ≡ length counts → ((task : ℕ) → is_listed listed task ≡ false) → AreReady (length counts) listed counts ready
-all_first n counts ready listed h whole none = record {
-  inside = λ task there. let both = and_both (ltb task n) (eqb (get_or counts task 0) 0) (sym (h task) ∙ there) in let low = ltb_lt task n both.0 in omega (arith, low, whole);
-  unlisted = λ task there. none task;
-  closed = λ task there. let both = and_both (ltb task n) (eqb (get_or counts task 0) 0) (sym (h task) ∙ there) in eqb-true _ _ both.1;
-  each = λ task inside no_ zero_. h task ∙ ap (λ b. b && eqb (get_or counts task 0) 0) (lt_ltb task n (omega (arith, inside, whole))) ∙ eq-eqb _ _ zero_;
-}

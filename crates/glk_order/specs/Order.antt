@@ -1,5 +1,5 @@
 -- The order of tasks: a task comes after its targets, and of the tasks that are ready the least is next.
-use Rattle.std.specs.Prelude.{◌<◌, ◌≤◌, ℕ, zero, suc, List, length, take, slice_index}
+use Rattle.std.specs.Prelude.{◌≡◌, ◌<◌, ◌≤◌, ℕ, zero, suc, List, length, take, slice_index}
 use Rattle.std.specs.List.{All, Contains}
 use Rattle.glk_order.specs.declared.edges.Edge.{Edge}
 
@@ -48,3 +48,7 @@ IsOnCycle edges task = Reaches edges task task
 pub record IsLeastOnCycle (edges : List Edge) (task : ℕ) : Type 0 where
   pub on_cycle : IsOnCycle edges task
   pub least : (other : ℕ) → IsOnCycle edges other → task ≤ other
+
+-- the tasks have one order, or none
+abbrev pub IsOneOrder : Type 0
+IsOneOrder = (count : ℕ) (edges : List Edge) (one other : List ℕ) → IsOrder count edges one → IsOrder count edges other → one ≡ other

@@ -5,6 +5,7 @@ mod chains;
 mod components;
 mod cycles;
 mod edges;
+mod laws;
 mod levels;
 mod order;
 mod search;
@@ -12,4 +13,5 @@ mod search;
 mod tests;
 
 pub use edges::Edge;
+pub use laws::one_order;
 pub use order::{Cycle, schedule};

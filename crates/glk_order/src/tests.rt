@@ -1,98 +1,106 @@
-// The order of tasks, and cycles.
+// The order of many tasks, and cycles.
+ghost use Rattle.std.specs.Prelude.{◌≡◌, true};
+ghost use Rattle.glk_order.specs.Order.{AreEdgesOf};
+
 use crate::{Cycle, Edge, schedule};
 use glk_base::Fault;
 use std::alloc::Global;
 use std::test::Fail;
 
-// The edges of these pairs of a task and its target.
-fn edges_of(alloc: Global, pairs: &[(u32, u32)]) -> Result<Vec<Edge>, Fail> {
-    let mut edges = Vec::new(alloc);
-    for &(task, target) in pairs {
-        edges.push(Edge { task, target })?;
+// How many tasks the chain and the star have.
+const MANY: u32 = 1000;
+
+// Whether these are edges between so many tasks.
+fn are_edges(count: u32, edges: &[Edge]) -> bool
+    ensures { result ≡ true → AreEdgesOf count edges.now }
+{
+    for edge in edges {
+        if edge.task >= count || edge.target >= count {
+            return false;
+        }
     }
-    Ok(edges)
+    true
+}
+
+// The order, or the least task on a cycle.
+fn order_of(alloc: Global, count: u32, edges: &[Edge]) -> Result<Result<Vec<u32>, u32>, Fail> {
+    if edges.len() > u32::MAX as usize || !are_edges(count, edges) {
+        return Err(Fail::from("no edges"));
+    }
+    match schedule(alloc, count, edges) {
+        Ok(list) => Ok(Ok(list)),
+        Err(Fault::Bad(Cycle { least })) => Ok(Err(least)),
+        Err(Fault::OutOfMemory) => Err(Fail::from("out of memory")),
+    }
 }
 
 #[test]
-fn big(rt: HostRuntime) -> Result<(), Fail> {
-    let n = 100000u32;
-    let mut chain = Vec::new(rt.alloc());
-    for t in 0..n - 1 {
-        chain.push(Edge {
-            task: t,
-            target: t + 1,
+fn a_chain_comes_from_its_end(rt: HostRuntime) -> Result<(), Fail> {
+    let mut edges = Vec::new(rt.alloc());
+    let mut want = Vec::new(rt.alloc());
+    for target in 1..MANY {
+        edges.push(Edge {
+            task: target - 1,
+            target,
         })?;
+        want.push(MANY - target)?;
     }
-    let list = schedule(rt.alloc(), n, chain.as_slice())?;
-    assert!(rt; list.len() == n as usize);
-    for t in 0..n {
-        assert!(rt; list[t as usize] == n - 1 - t);
+    want.push(0)?;
+    match order_of(rt.alloc(), MANY, edges.as_slice())? {
+        Ok(list) => assert_eq!(rt; list.as_slice(), want.as_slice()),
+        Err(_) => return Err(Fail::from("a cycle")),
     }
-    let mut star = Vec::new(rt.alloc());
-    for t in 1..n {
-        star.push(Edge { task: 0, target: t })?;
-        star.push(Edge { task: t, target: n })?;
-    }
-    let list = schedule(rt.alloc(), n + 1, star.as_slice())?;
-    assert!(rt; list[0] == n);
-    assert!(rt; list[n as usize] == 0);
-    // many cycles
-    let mut rings = Vec::new(rt.alloc());
-    for t in 0..n / 2 {
-        rings.push(Edge {
-            task: t,
-            target: t + n / 2,
-        })?;
-    }
-    for t in n / 2..n {
-        if t % 10 != 0 {
-            rings.push(Edge {
-                task: t,
-                target: t - 1,
-            })?;
-        } else {
-            rings.push(Edge {
-                task: t,
-                target: t + 9,
-            })?;
-        }
-    }
-    match schedule(rt.alloc(), n, rings.as_slice()) {
-        Err(Fault::Bad(Cycle { least })) => {
-            assert_eq!(rt; least, n / 2);
-        }
-        _ => {
-            assert!(rt; false);
-        }
-    }
-    chain.push(Edge {
-        task: n - 1,
+    // The last task waits for task 7: those before it only lead to the cycle.
+    edges.push(Edge {
+        task: MANY - 1,
         target: 7,
     })?;
-    match schedule(rt.alloc(), n, chain.as_slice()) {
-        Err(Fault::Bad(Cycle { least })) => {
-            assert_eq!(rt; least, 7);
-        }
-        _ => {
-            assert!(rt; false);
-        }
+    assert_eq!(rt;
+        order_of(rt.alloc(), MANY, edges.as_slice())?.err(),
+        Some(7)
+    );
+    Ok(())
+}
+
+#[test]
+fn the_least_ready_task_is_next(rt: HostRuntime) -> Result<(), Fail> {
+    // Task 0 waits for all others, and all others wait for the last one, some of them twice.
+    let mut edges = Vec::new(rt.alloc());
+    let mut want = Vec::new(rt.alloc());
+    want.push(MANY)?;
+    for task in 1..MANY {
+        edges.push(Edge {
+            task: 0,
+            target: task,
+        })?;
+        edges.push(Edge { task, target: MANY })?;
+        edges.push(Edge { task, target: MANY })?;
+        want.push(task)?;
+    }
+    want.push(0)?;
+    match order_of(rt.alloc(), MANY + 1, edges.as_slice())? {
+        Ok(list) => assert_eq!(rt; list.as_slice(), want.as_slice()),
+        Err(_) => return Err(Fail::from("a cycle")),
     }
     Ok(())
 }
 
 #[test]
-fn small(rt: HostRuntime) -> Result<(), Fail> {
-    let e = edges_of(rt.alloc(), &[(0, 1), (1, 2), (2, 3), (3, 2), (0, 3)])?;
-    match schedule(rt.alloc(), 4, e.as_slice()) {
-        Err(Fault::Bad(Cycle { least })) => {
-            assert_eq!(rt; least, 2);
-        }
-        _ => {
-            assert!(rt; false);
-        }
-    }
-    let e = edges_of(rt.alloc(), &[(0, 2), (2, 1), (2, 1), (0, 3)])?;
-    let list = schedule(rt.alloc(), 5, e.as_slice())?;
-    assert_eq!(rt; list.as_slice(), [1, 2, 3, 0, 4].as_slice());
+fn the_least_task_on_a_cycle_is_told(rt: HostRuntime) -> Result<(), Fail> {
+    // Tasks 0 and 1 lead to the cycles 2, 5 and 3, 4; task 6 waits for itself.
+    let edges = [
+        Edge { task: 6, target: 6 },
+        Edge { task: 4, target: 3 },
+        Edge { task: 3, target: 4 },
+        Edge { task: 5, target: 2 },
+        Edge { task: 2, target: 5 },
+        Edge { task: 2, target: 4 },
+        Edge { task: 1, target: 2 },
+        Edge { task: 0, target: 1 },
+    ];
+    assert_eq!(rt; order_of(rt.alloc(), 8, &edges)?.err(), Some(2));
+    assert_eq!(rt; order_of(rt.alloc(), 8, &edges[..3])?.err(), Some(3));
+    assert_eq!(rt; order_of(rt.alloc(), 8, &edges[..1])?.err(), Some(6));
+    assert_eq!(rt; order_of(rt.alloc(), 8, &edges[6..])?.err(), None);
     Ok(())
 }
