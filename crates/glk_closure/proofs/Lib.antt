@@ -1,0 +1,11 @@
+pub mod Derivations
+pub mod Each
+pub mod Growth
+pub mod Parts
+pub mod Steps
+pub mod Turns
+pub mod Rowing
+pub mod Places
+pub mod CallLemmas
+pub mod Methods
+pub mod SampleLemmas

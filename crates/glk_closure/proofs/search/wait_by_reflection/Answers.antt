@@ -1,0 +1,37 @@
+use Rattle.std.proofs.Common.{rules, ◌≡◌, true, Some, refl, inl, inr, sym, ◌∙◌, subst, ℕ, List, length}
+use Rattle.std.specs.Prelude.{IsTrue}
+use Rattle.std.proofs.lemmas.Result.{on_ok_weaker}
+use Rattle.glk_closure.specs.declared.effect.Targets.{Targets}
+use Rattle.glk_closure.specs.declared.marks.Marks.{Marks}
+use Rattle.glk_closure.specs.Graph.{Graph}
+use Rattle.glk_closure.specs.Reach.{Fact, Kept, Iface, Sig, Named, Reflect, Reach, Wakes, by_sig, by_name, by_reflection, is_exported, I4, M1}
+use Rattle.glk_closure.specs.Rows.{Stands}
+use Rattle.glk_closure.specs.Marks.{Holds, Waits, Covers, Extends, ExtendsIf, AllBack}
+use Rattle.glk_closure.specs.Search.{IsWaiting}
+use Rattle.glk_closure.proofs.Derivations.{Reach-step}
+use Rattle.glk_closure.proofs.Growth.{ExtendsIf-then, ExtendsIf-of, Extends-from}
+use Rattle.glk_closure.proofs.Rowing.{row_within}
+use Rattle.glk_closure.proofs.search.wait_by_reflection.Goals as goal
+
+pub wait-requires-clause-row : goal.wait-requires-clause-row
+wait-requires-clause-row g c =
+    let w : Graph = g.P.Program.graph c.args.program.now in
+    let m : Marks = c.reflection_row.new.self in
+    let x : Extends w c.args.marks.now m = c.in_ok-row.ensures.extends w in
+    row_within m w.keys c.in_ok-row.row Reflect (x.covers c.requires.covers) c.in_ok-row.ensures.stands
+
+pub wait-requires-clause-covers : goal.wait-requires-clause-covers
+wait-requires-clause-covers g c =
+    let w : Graph = g.P.Program.graph c.args.program.now in
+    let m : Marks = c.reflection_row.new.self in
+    let x : Extends w c.args.marks.now m = c.in_ok-row.ensures.extends w in
+    x.covers c.requires.covers
+
+pub returns-in_ok-wait-clause-extends : goal.returns-in_ok-wait-clause-extends
+returns-in_ok-wait-clause-extends g c =
+    let w : Graph = g.P.Program.graph c.args.program.now in
+    let m : Marks = c.reflection_row.new.self in
+    let x : Extends w c.args.marks.now m = c.in_ok-row.ensures.extends w in
+    let R = AllBack w c.args.name.now c.args.targets in
+    let e : is_exported c.args.name.now ≡ true = search rules in
+    ExtendsIf-then R (ExtendsIf-of R x) (c.in_ok-wait.ensures.extends Reflect c.in_ok-row.ensures.stands) (λ r s. r) (λ r s. r Reflect (by_reflection e))

@@ -1,0 +1,10 @@
+pub mod Graph
+pub mod Views
+pub mod Reach
+pub mod Laws
+pub mod Kept
+pub mod Rows
+pub mod CallTable
+pub mod Marks
+pub mod Search
+pub mod Sample

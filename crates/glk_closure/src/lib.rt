@@ -1,0 +1,21 @@
+//! What a linked program keeps: the least set of facts about its symbols that is closed under the
+//! rules of reachability.
+#![tactic(auto)]
+
+mod call;
+mod call_table;
+mod effect;
+mod kept;
+mod laws;
+mod mark_table;
+mod marks;
+mod name;
+mod program;
+mod search;
+#[cfg(test)]
+mod tests;
+
+pub use effect::{Effect, Targets};
+pub use kept::{KeptSet, kept_set};
+pub use laws::least_reach;
+pub use program::Program;
