@@ -28,7 +28,7 @@ Step-weaker up (I1 k l f d) = I1 k l f d
 Step-weaker up (I2 k t h j a d) = I2 k t (up (Kept k) h) (up (Iface k) j) a d
 Step-weaker up (I3 k t h a d) = I3 k t (up (Kept k) h) a d
 Step-weaker up (I4 k t n x h j a is d) = I4 k t n x (up (Kept k) h) (up (Iface k) j) a is d
-Step-weaker up (S1 k t n h a) = S1 k t n (up (Kept k) h) a
+Step-weaker up (S1 k t n h a d) = S1 k t n (up (Kept k) h) a d
 Step-weaker up (G1 k n h a) = G1 k n (up (Kept k) h) a
 Step-weaker up (F1 k h r) = F1 k (up (Kept k) h) r
 Step-weaker up (M1 k t n x f h j a wakes v o d) = M1 k t n x f (up (Kept k) h) (up (Iface k) j) a wakes (up f v) o d
@@ -56,7 +56,7 @@ joint (I1 k l f d) = ([], tt, I1 k l f d)
 joint {w} (I2 k t h j a d) = let b = both w h j in (b.0, b.1, I2 k t b.2.0 b.2.1 a d)
 joint (I3 k t h a d) = (h.0, h.1, I3 k t h.2 a d)
 joint {w} (I4 k t n x h j a is d) = let b = both w h j in (b.0, b.1, I4 k t n x b.2.0 b.2.1 a is d)
-joint (S1 k t n h a) = (h.0, h.1, S1 k t n h.2 a)
+joint (S1 k t n h a d) = (h.0, h.1, S1 k t n h.2 a d)
 joint (G1 k n h a) = (h.0, h.1, G1 k n h.2 a)
 joint (F1 k h r) = (h.0, h.1, F1 k h.2 r)
 joint {w} (M1 k t n x f h j a wakes v o d) =

@@ -12,7 +12,6 @@ use Rattle.glk_closure.specs.Graph.{Graph}
 use Rattle.glk_closure.specs.Reach.{Fact, Kept, Iface, Sig, Named, Reflect, Reach}
 use Rattle.glk_closure.specs.Rows.{Stands}
 use Rattle.glk_closure.specs.Marks.{called_at, methods_at, IsCalled, Waits, Holds, unmarked, Grows, Adds, Covers, IsSound, IsReady, Backs, Extends, ExtendsIf, SameRows}
-use Rattle.glk_closure.proofs.Derivations.{Reach-step, Step-weaker}
 
 -- the rows are the same: what was called is, and what waited does
 pub IsCalled-same : {a b : Marks} {f : Fact} → SameRows a b → IsCalled a f → IsCalled b f

@@ -1,6 +1,6 @@
 -- A method of a kept type with Iface: what its visit gives.
-use Rattle.std.proofs.Common.{◌≡◌, ℕ, List, Some, None, Option, Result, Ok, Err, subst}
-use Rattle.std.specs.Prelude.{IsTrue, OnOk}
+use Rattle.std.proofs.Common.{◌≡◌, ℕ, List, Some, None, Result, Ok, Err, subst}
+use Rattle.std.specs.Prelude.{OnOk}
 use Rattle.std.proofs.lemmas.Option.{same_Some}
 use Rattle.glk_closure.specs.declared.effect.Targets.{Targets}
 use Rattle.glk_closure.specs.declared.marks.Marks.{Marks}

@@ -1,6 +1,5 @@
 -- One row more, one row's fact marked, one method more that waits in a row.
-use Rattle.std.proofs.Common.{◌≡◌, ◌<◌, ◌≤◌, ◌+◌, ℕ, zero, suc, Bool, true, false, List, [], ◌∷◌, ◌++◌, Some, None, length, get_or, set, ◌⊎◌, inl, inr, refl, sym, ap, ◌∙◌, subst, arith, Fits}
-use Rattle.std.specs.Prelude.{IsTrue, slice_get}
+use Rattle.std.proofs.Common.{◌≡◌, ◌<◌, ◌≤◌, ℕ, zero, suc, true, false, List, [], ◌∷◌, ◌++◌, length, get_or, set, inl, inr, refl, sym, ap, ◌∙◌, subst, arith}
 use Rattle.std.specs.List.{Contains}
 use Rattle.std.proofs.lemmas.Bool.{cases_eq, cases_lt, both_ways}
 use Rattle.std.proofs.lemmas.Option.{slice_get_within, slice_get_read, same_Some}
@@ -11,12 +10,12 @@ use Rattle.glk_closure.specs.declared.effect.Targets.{Targets}
 use Rattle.glk_closure.specs.declared.marks.Marks.{Marks}
 use Rattle.glk_closure.specs.declared.marks.WaitingRow.{WaitingRow}
 use Rattle.glk_closure.specs.Graph.{Graph}
-use Rattle.glk_closure.specs.Reach.{Fact, Kept, Reach}
+use Rattle.glk_closure.specs.Reach.{Fact, Reach}
 use Rattle.glk_closure.specs.Views.{AreBelow}
 use Rattle.glk_closure.specs.Rows.{Stands, Numbers}
-use Rattle.glk_closure.specs.Marks.{called_at, methods_at, Holds, Covers, IsSound, IsReady, Backs, AllKept, Extends, ExtendsIf, Waits}
+use Rattle.glk_closure.specs.Marks.{called_at, methods_at, Covers, Backs, AllKept, Extends, ExtendsIf, Waits}
 use Rattle.glk_closure.proofs.Derivations.{Contains-nil}
-use Rattle.glk_closure.proofs.Growth.{Rowwise, Extends-rows, Extends-from}
+use Rattle.glk_closure.proofs.Growth.{Extends-rows, Extends-from}
 use Rattle.glk_closure.proofs.Parts.{set_same, set_other, push_default, get_append, get_front, get_last, get_or_some}
 
 pub record SameKeys (a b : Marks) : Type 0 where

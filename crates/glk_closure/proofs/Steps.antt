@@ -1,14 +1,13 @@
 -- One relocation of one key: what its rule gives, and that this lasts.
-use Rattle.std.proofs.Common.{◌≡◌, ◌<◌, ℕ, Bool, true, false, List, length, get_or, inl, inr, Result, refl, sym, ◌∙◌, subst}
+use Rattle.std.proofs.Common.{◌≡◌, ◌<◌, ℕ, Bool, true, false, List, length, get_or, inl, inr, Result, sym, ◌∙◌}
 use Rattle.std.specs.Prelude.{IsTrue, OnOk}
 use Rattle.std.proofs.lemmas.Result.{on_ok_weaker}
-use Rattle.std.proofs.lemmas.Option.{same_Some}
 use Rattle.std.proofs.lemmas.Bool.{cases_lt, both_ways}
 use Rattle.std.proofs.lemmas.List.{get_or_past, get_or_read}
 use Rattle.glk_closure.specs.declared.effect.Targets.{Targets}
 use Rattle.glk_closure.specs.declared.marks.Marks.{Marks}
 use Rattle.glk_closure.specs.Graph.{Graph, Effect, Keeps, Links, Funcdata, Uses, Calls, Names, Method}
-use Rattle.glk_closure.specs.Reach.{Fact, Kept, Iface, Sig, Named, Reflect, Step, Reach}
+use Rattle.glk_closure.specs.Reach.{Fact, Kept, Iface, Sig, Named, Reflect, Step}
 use Rattle.glk_closure.specs.Marks.{Holds, Waits, Grows, Adds, Extends}
 use Rattle.glk_closure.specs.Search.{IsGiven, Concludes}
 use Rattle.glk_closure.proofs.Derivations.{Reach-step, Step-weaker}
@@ -36,7 +35,7 @@ IsGiven-keeps w iface a b up (Keeps t) h = λ d. up.facts (Kept t) (h d)
 IsGiven-keeps w iface a b up (Links t) h = (λ d. up.facts (Kept t) (h.0 d), λ x d. up.facts (Iface t) (h.1 x d))
 IsGiven-keeps w iface a b up (Funcdata t) h = λ d. up.facts (Kept t) (h d)
 IsGiven-keeps w iface a b up (Uses t) h = λ d. up.facts (Iface t) (h d)
-IsGiven-keeps w iface a b up (Calls n t) h = up.facts (Sig n t) h
+IsGiven-keeps w iface a b up (Calls n t) h = λ d. up.facts (Sig n t) (h d)
 IsGiven-keeps w iface a b up (Names n) h = up.facts (Named n) h
 IsGiven-keeps w iface a b up (Method n x) h = λ j. record { first = λ t is d. up.facts (Iface t) ((h j).first t is d); waits = λ m is f y. up.waits f x ((h j).waits m is f y) }
 

@@ -1,5 +1,5 @@
 -- The search between two turns, at its start and at its end.
-use Rattle.std.proofs.Common.{◌≡◌, ◌<◌, ◌↔◌, ℕ, List, Some, None, true, false, [], ◌∷◌, ◌++◌, length, get_or, replicate, ◌⊎◌, inl, inr, refl, sym, ap, ◌∙◌, subst}
+use Rattle.std.proofs.Common.{◌≡◌, ◌↔◌, ℕ, List, Some, None, true, false, [], ◌∷◌, ◌++◌, length, get_or, replicate, ◌⊎◌, inl, inr, refl, sym, ap, ◌∙◌, subst}
 use Rattle.std.specs.Prelude.{IsTrue}
 use Rattle.std.specs.List.{Contains}
 use Rattle.std.proofs.lemmas.Bool.{cases_lt, cases_Bool, both_ways}
@@ -10,7 +10,7 @@ use Rattle.glk_closure.specs.declared.marks.Marks.{Marks}
 use Rattle.glk_closure.specs.Graph.{Graph, Keeps, Links, Funcdata, Uses, Calls, Names, Method}
 use Rattle.glk_closure.specs.Views.{OneOf}
 use Rattle.glk_closure.specs.Reach.{Fact, Kept, Iface, Sig, Named, Reflect, Wakes, by_sig, by_name, by_reflection, Step, K1, K2, K3, I1, I2, I3, I4, S1, G1, F1, M1, Reach}
-use Rattle.glk_closure.specs.Marks.{called_at, methods_at, IsCalled, Holds, Waits, Grows, Covers, IsSound, IsReady, Extends, SameRows}
+use Rattle.glk_closure.specs.Marks.{called_at, IsCalled, Holds, Waits, Grows, Covers, Extends, SameRows}
 use Rattle.glk_closure.specs.Rows.{Stands}
 use Rattle.glk_closure.specs.Search.{Concludes, HasRoots, HasFlagged, Searching}
 use Rattle.glk_closure.proofs.Derivations.{Reach-least, Contains-nil}
@@ -119,7 +119,7 @@ module _ (w : Graph) (c : Marks) (s : Searching w c) (none : c.work.items ≡ []
   closed (I2 k t h j at d) = ((done k h).each (Links t) at).1 j d
   closed (I3 k t h at d) = (done k h).each (Uses t) at d
   closed (I4 k t n x h j at is d) = ((done k h).each (Method n x) at j).first t is d
-  closed (S1 k t n h at) = (done k h).each (Calls n t) at
+  closed (S1 k t n h at d) = (done k h).each (Calls n t) at d
   closed (G1 k n h at) = (done k h).each (Names n) at
   closed (F1 k h r) = (done k h).reflects r
   closed (M1 k t n x f h j at y v o d) = woken f x (((done k h).each (Method (Some n) x) at j).waits n refl f y) (called_of c y v) t o d

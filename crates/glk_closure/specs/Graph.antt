@@ -10,7 +10,7 @@ pub data Effect : Type 0 where
   Links : ℕ → Effect
   -- a funcdata aux has this target
   Funcdata : ℕ → Effect
-  -- this type is converted to an interface: by a strong USEIFACE on it, or on an itab of it
+  -- this symbol is used in an interface: a strong USEIFACE has it as target, or an itab of it
   Uses : ℕ → Effect
   -- a strong USEIFACEMETHOD calls a method by this name and type
   Calls : (name : List ℕ) (of : ℕ) → Effect

@@ -1,5 +1,5 @@
 -- What is known of the kept set.
-use Rattle.std.specs.Prelude.{◌≡◌, ◌↔◌, ◌<◌, ℕ, Bool, false, List, length, slice_index_or, IsTrue}
+use Rattle.std.specs.Prelude.{◌≡◌, ◌↔◌, ℕ, Bool, false, List, length, slice_index_or, IsTrue}
 use Rattle.std.specs.List.{Contains}
 use Rattle.std.specs.List.Sorted.{IsStrictlyIncreasing}
 use Rattle.glk_closure.specs.Graph.{Graph}
@@ -18,7 +18,7 @@ pub record IsLeast (g : Graph) (s : KeptView) : Type 0 where
   pub kept_keys : length s.kept ≡ g.keys
   pub iface_keys : length s.iface ≡ g.keys
 
--- exactly the marked keys, each once, in order
+-- exactly the marked keys, each once, in the order of their numbers
 pub record AreMarked (marks : List Bool) (list : List ℕ) : Type 0 where
   pub rising : IsStrictlyIncreasing list
   pub exact : (k : ℕ) → Contains list k ↔ IsTrue (slice_index_or marks k false)

@@ -43,7 +43,8 @@ pub data Wakes (name : List ℕ) (x : Targets) : Fact → Type 0 where
 -- types it links to, I3 to a type that a kept symbol converts, I4 to the type of each method of a kept
 -- type with Iface. S1, G1 and F1 are the calls of methods by a kept symbol: by name and type, by name,
 -- by reflection. M1 keeps the targets of a method that is called, of a kept type with Iface. No rule
--- concludes that a symbol without a definition is kept or has Iface.
+-- concludes a fact about a symbol without a definition: that it is kept, that it has Iface, or that
+-- methods of this type are called.
 pub data Step (g : Graph) (holds : Fact → Type 0) : Fact → Type 0 where
   K1 : (r : ℕ) → Contains g.roots r → IsTrue (g.defined r) → Step g holds (Kept r)
   K2 : (k t : ℕ) → holds (Kept k) → Refers g k t → IsTrue (g.defined t) → Step g holds (Kept t)
@@ -52,7 +53,7 @@ pub data Step (g : Graph) (holds : Fact → Type 0) : Fact → Type 0 where
   I2 : (k t : ℕ) → holds (Kept k) → holds (Iface k) → Has g k (Links t) → IsTrue (g.defined t) → Step g holds (Iface t)
   I3 : (k t : ℕ) → holds (Kept k) → Has g k (Uses t) → IsTrue (g.defined t) → Step g holds (Iface t)
   I4 : (k t : ℕ) (n : Option (List ℕ)) (x : Targets) → holds (Kept k) → holds (Iface k) → Has g k (Method n x) → x.first ≡ Some t → IsTrue (g.defined t) → Step g holds (Iface t)
-  S1 : (k t : ℕ) (n : List ℕ) → holds (Kept k) → Has g k (Calls n t) → Step g holds (Sig n t)
+  S1 : (k t : ℕ) (n : List ℕ) → holds (Kept k) → Has g k (Calls n t) → IsTrue (g.defined t) → Step g holds (Sig n t)
   G1 : (k : ℕ) (n : List ℕ) → holds (Kept k) → Has g k (Names n) → Step g holds (Named n)
   F1 : (k : ℕ) → holds (Kept k) → IsTrue (g.reflects k) → Step g holds Reflect
   M1 : (k t : ℕ) (n : List ℕ) (x : Targets) (f : Fact) → holds (Kept k) → holds (Iface k) → Has g k (Method (Some n) x) → Wakes n x f → holds f → OneOf t x → IsTrue (g.defined t) → Step g holds (Kept t)

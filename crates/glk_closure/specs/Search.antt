@@ -30,7 +30,7 @@ IsGiven g iface m (Keeps t) = IsTrue (g.defined t) → Holds m (Kept t)
 IsGiven g iface m (Links t) = (IsTrue (g.defined t) → Holds m (Kept t)) × (iface ≡ true → IsTrue (g.defined t) → Holds m (Iface t))
 IsGiven g iface m (Funcdata t) = IsTrue (g.defined t) → Holds m (Kept t)
 IsGiven g iface m (Uses t) = IsTrue (g.defined t) → Holds m (Iface t)
-IsGiven g iface m (Calls n t) = Holds m (Sig n t)
+IsGiven g iface m (Calls n t) = IsTrue (g.defined t) → Holds m (Sig n t)
 IsGiven g iface m (Names n) = Holds m (Named n)
 IsGiven g iface m (Method n x) = iface ≡ true → IsWaiting g m n x
 

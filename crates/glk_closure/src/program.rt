@@ -16,7 +16,7 @@ pub trait Program {
     fn keys(&self) -> u32
         ensures { result ≡ (graph self.now).keys };
 
-    /// The roots: the entry, the stand-ins of what is missing, and the listed init tasks. Those
+    /// The roots: the entry, the stand-ins of what is not kept, and the listed init tasks. Those
     /// without a definition count for nothing.
     fn roots(&self) -> &[u32]
         ensures value { result.now ≡ (graph self.now).roots }

@@ -282,6 +282,28 @@ fn call_sig<'a, P: Program>(
     call(program, marks, row)
 }
 
+// Marks the call of a method by its name and type, where the type has a definition.
+fn call_defined<'a, P: Program>(
+    alloc: Global,
+    program: &P,
+    marks: &mut Marks<'a>,
+    name: &'a [u8],
+    of: u32,
+) -> Result<(), OutOfMemory>
+    requires key { of < (P.graph program.now).keys }
+    requires covers { Covers marks.old (P.graph program.now).keys }
+    ensures extends { OnOk result (ExtendsIf (P.graph program.now)
+        (IsTrue ((P.graph program.now).defined of) → Reach (P.graph program.now) (Sig name.now of))
+        marks.old marks.new) }
+    ensures called { OnOk result
+        (IsTrue ((P.graph program.now).defined of) → Holds marks.new (Sig name.now of)) }
+{
+    if program.is_defined(of) {
+        call_sig(alloc, program, marks, name, of)?;
+    }
+    Ok(())
+}
+
 // Marks reflection, where a key calls methods so.
 fn call_by_reflection<P: Program>(
     alloc: Global,
@@ -330,7 +352,7 @@ fn apply<'a, P: Program>(
         }
         Effect::Funcdata(target) => keep_defined(program, marks, target),
         Effect::Uses(target) => mark_defined(program, marks, target),
-        Effect::Calls { name, of } => call_sig(alloc, program, marks, name, of),
+        Effect::Calls { name, of } => call_defined(alloc, program, marks, name, of),
         Effect::Names(name) => call_name(alloc, program, marks, name),
         Effect::Method { name, targets } => {
             if iface {

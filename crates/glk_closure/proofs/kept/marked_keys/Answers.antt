@@ -1,4 +1,4 @@
-use Rattle.std.proofs.Common.{rules, ◌≡◌, ◌<◌, true, false, get_or, arith}
+use Rattle.std.proofs.Common.{rules, ◌≡◌, true, false, get_or, arith}
 use Rattle.glk_closure.proofs.Places.{ArePlaces-skip, ArePlaces-push}
 use Rattle.glk_closure.proofs.Steps.{marked_within}
 use Rattle.glk_closure.proofs.kept.marked_keys.Goals as goal

@@ -1,4 +1,5 @@
-use Rattle.std.proofs.Common.{rules, ◌≡◌, ℕ, List, Option, true, refl, sym, subst, inl, inr}
+use Rattle.std.proofs.Common.{rules, ◌≡◌, ℕ, List, Option, sym, subst, inl, inr}
+use Rattle.std.specs.Prelude.{IsTrue}
 use Rattle.std.proofs.lemmas.Result.{on_ok_weaker}
 use denote.Ref.{Bor}
 use Rattle.glk_closure.specs.declared.effect.Effect.{Effect as CodeEffect}
@@ -8,7 +9,7 @@ use Rattle.glk_closure.specs.declared.marks.Marks.{Marks}
 use Rattle.glk_closure.specs.Graph.{Graph}
 use Rattle.glk_closure.specs.Views.{effect_view, name_view, IsWithin}
 use Rattle.glk_closure.specs.Reach.{Has, Kept, Iface, Sig, Named, Reach, K2, K3, I2, I3, S1, G1}
-use Rattle.glk_closure.specs.Marks.{Holds, Adds, Extends, ExtendsBy}
+use Rattle.glk_closure.specs.Marks.{Adds, Extends, ExtendsIf, ExtendsBy}
 use Rattle.glk_closure.specs.Search.{IsGiven, ExtendsByMethod}
 use Rattle.glk_closure.proofs.Derivations.{Reach-step}
 use Rattle.glk_closure.proofs.Growth.{Extends-refl, Extends-from, Covers-same}
@@ -101,8 +102,9 @@ returns-in-Calls-clause-extends g c =
     let e : c.args.effect ≡ code.Calls n t = search rules in
     let H : CodeEffect → Type 0 = λ x. Has w k (effect_view x) in
     let at : Has w k (effect_view (code.Calls n t)) = subst H e c.requires.has in
-    let o : Marks = c.call_sig.new.marks in
-    on_ok_weaker {P = ExtendsBy w (Sig n.now t) m o} {Q = Extends w m o} c.call_sig.result (λ x. Extends-from x (λ s. Reach-step (S1 k t n.now (s.facts (Kept k) c.requires.kept) at))) c.call_sig.ensures.extends
+    let o : Marks = c.call_defined.new.marks in
+    on_ok_weaker {P = ExtendsIf w (IsTrue (w.defined t) → Reach w (Sig n.now t)) m o} {Q = Extends w m o} c.call_defined.result
+    (λ x. Extends-from x (λ s d. Reach-step (S1 k t n.now (s.facts (Kept k) c.requires.kept) at d))) c.call_defined.ensures.extends
 
 pub returns-in-Names-clause-extends : goal.returns-in-Names-clause-extends
 returns-in-Names-clause-extends g c =

@@ -1,12 +1,10 @@
-use Rattle.std.proofs.Common.{rules, ◌≡◌, ◌<◌, true, refl, length, set, sym, ap, ◌∙◌, arith}
+use Rattle.std.proofs.Common.{rules, ◌<◌, true, refl, length, ap, arith}
 use Rattle.std.specs.Vec.{with_item}
-use Rattle.glk_closure.specs.declared.effect.Targets.{Targets}
 use Rattle.glk_closure.specs.declared.marks.Marks.{Marks}
 use Rattle.glk_closure.specs.declared.marks.WaitingRow.{WaitingRow}
 use Rattle.glk_closure.specs.Graph.{Graph}
-use Rattle.glk_closure.specs.Reach.{Fact, Reach}
+use Rattle.glk_closure.specs.Reach.{Reach}
 use Rattle.glk_closure.specs.Rows.{Stands}
-use Rattle.glk_closure.specs.Marks.{methods_at}
 use Rattle.glk_closure.proofs.Growth.{ExtendsIf-then}
 use Rattle.glk_closure.proofs.Rowing.{Extends-called, c_here, row_read_methods}
 use Rattle.glk_closure.proofs.search.call.Goals as goal

@@ -1,8 +1,7 @@
 use Rattle.std.proofs.Common.{inl, inr}
-use Rattle.glk_closure.specs.Graph.{Graph}
 use Rattle.glk_closure.specs.Reach.{Kept}
 use Rattle.glk_closure.specs.Marks.{AllReach}
-use Rattle.glk_closure.proofs.Growth.{ExtendsIf-then, SameRows-trans}
+use Rattle.glk_closure.proofs.Growth.{ExtendsIf-then}
 use Rattle.glk_closure.proofs.search.keep_targets.Goals as goal
 
 pub keep_target-requires-clause-below : goal.keep_target-requires-clause-below

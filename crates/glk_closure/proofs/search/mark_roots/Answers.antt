@@ -1,4 +1,4 @@
-use Rattle.std.proofs.Common.{◌≡◌, ◌<◌, ℕ, List, length, get_or, refl, sym, ap, subst, arith}
+use Rattle.std.proofs.Common.{◌<◌, ℕ, List, get_or, refl, subst, arith}
 use Rattle.std.specs.Prelude.{IsTrue}
 use Rattle.std.specs.List.{Contains}
 use Rattle.glk_closure.specs.declared.marks.Marks.{Marks}

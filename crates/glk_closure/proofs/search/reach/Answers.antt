@@ -1,4 +1,4 @@
-use Rattle.std.proofs.Common.{◌∙◌, rules, false, refl}
+use Rattle.std.proofs.Common.{rules}
 use Rattle.glk_closure.specs.declared.marks.Marks.{Marks}
 use Rattle.glk_closure.specs.Graph.{Graph}
 use Rattle.glk_closure.specs.Reach.{Kept}

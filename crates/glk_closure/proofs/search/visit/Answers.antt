@@ -1,13 +1,12 @@
-use Rattle.std.proofs.Common.{rules, ℕ, ◌≡◌, ◌<◌, true, false, length, sym, ap, ◌∙◌, arith, below_more, subst, get_or, refl, Some, List, map}
+use Rattle.std.proofs.Common.{rules, ℕ, ◌≡◌, ◌<◌, length, sym, ap, ◌∙◌, arith, below_more, subst, get_or, refl, Some, List, map}
 use Rattle.std.specs.Prelude.{slice_get}
-use Rattle.std.specs.List.{Contains}
 use Rattle.std.proofs.lemmas.List.{length-map}
 use Rattle.std.proofs.lemmas.Option.{slice_get_read, same_Some}
 use Rattle.glk_closure.specs.declared.effect.Effect.{Effect as CodeEffect}
 use Rattle.glk_closure.specs.declared.marks.Marks.{Marks}
 use Rattle.glk_closure.specs.Graph.{Graph, Effect}
 use Rattle.glk_closure.specs.Views.{effect_view, IsWithin}
-use Rattle.glk_closure.specs.Reach.{Has, Kept, Iface, Reflect, F1}
+use Rattle.glk_closure.specs.Reach.{Kept, Iface, Reflect, F1}
 use Rattle.glk_closure.specs.Marks.{Holds}
 use Rattle.glk_closure.specs.Search.{IsGiven}
 use Rattle.glk_closure.proofs.Derivations.{Reach-step}

@@ -1,10 +1,9 @@
-use Rattle.std.proofs.Common.{rules, ◌≡◌, ◌<◌, ◌++◌, ◌∷◌, [], List, true, refl, length, set, sym, ap, ◌∙◌, arith}
+use Rattle.std.proofs.Common.{rules, ◌≡◌, ◌<◌, ◌++◌, ◌∷◌, [], List, refl, length, ap, ◌∙◌, arith}
 use Rattle.std.specs.Vec.{with_item}
 use Rattle.glk_closure.specs.declared.effect.Targets.{Targets}
 use Rattle.glk_closure.specs.declared.marks.Marks.{Marks}
 use Rattle.glk_closure.specs.declared.marks.WaitingRow.{WaitingRow}
 use Rattle.glk_closure.specs.Graph.{Graph}
-use Rattle.glk_closure.specs.Reach.{Fact}
 use Rattle.glk_closure.specs.Rows.{Stands}
 use Rattle.glk_closure.specs.Marks.{methods_at, Backs}
 use Rattle.glk_closure.proofs.Growth.{ExtendsIf-then}

@@ -1,15 +1,9 @@
-use Rattle.std.proofs.Common.{rules, ◌≡◌, true, Some, refl, inl, inr, sym, ◌∙◌, subst, ℕ, List, length}
-use Rattle.std.specs.Prelude.{IsTrue}
-use Rattle.std.proofs.lemmas.Result.{on_ok_weaker}
-use Rattle.glk_closure.specs.declared.effect.Targets.{Targets}
+use Rattle.std.proofs.Common.{rules, ◌≡◌, true}
 use Rattle.glk_closure.specs.declared.marks.Marks.{Marks}
 use Rattle.glk_closure.specs.Graph.{Graph}
-use Rattle.glk_closure.specs.Reach.{Fact, Kept, Iface, Sig, Named, Reflect, Reach, Wakes, by_sig, by_name, by_reflection, is_exported, I4, M1}
-use Rattle.glk_closure.specs.Rows.{Stands}
-use Rattle.glk_closure.specs.Marks.{Holds, Waits, Covers, Extends, ExtendsIf, AllBack}
-use Rattle.glk_closure.specs.Search.{IsWaiting}
-use Rattle.glk_closure.proofs.Derivations.{Reach-step}
-use Rattle.glk_closure.proofs.Growth.{ExtendsIf-then, ExtendsIf-of, Extends-from}
+use Rattle.glk_closure.specs.Reach.{Reflect, by_reflection, is_exported}
+use Rattle.glk_closure.specs.Marks.{Extends, AllBack}
+use Rattle.glk_closure.proofs.Growth.{ExtendsIf-then, ExtendsIf-of}
 use Rattle.glk_closure.proofs.Rowing.{row_within}
 use Rattle.glk_closure.proofs.search.wait_by_reflection.Goals as goal
 

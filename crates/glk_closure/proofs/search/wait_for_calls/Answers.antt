@@ -1,11 +1,11 @@
-use Rattle.std.proofs.Common.{rules, ◌≡◌, true, Some, ℕ, List}
-use Rattle.std.specs.Prelude.{IsTrue, OnOk}
+use Rattle.std.proofs.Common.{ℕ, List}
+use Rattle.std.specs.Prelude.{IsTrue}
 use Rattle.std.proofs.lemmas.Result.{on_ok_weaker}
 use Rattle.glk_closure.proofs.Methods.{both_ok}
 use Rattle.glk_closure.specs.declared.effect.Targets.{Targets}
 use Rattle.glk_closure.specs.declared.marks.Marks.{Marks}
 use Rattle.glk_closure.specs.Graph.{Graph}
-use Rattle.glk_closure.specs.Reach.{Fact, Sig, Named, Reflect, Wakes, by_sig, by_name, by_reflection, is_exported}
+use Rattle.glk_closure.specs.Reach.{Sig, Named, Reflect, by_sig, by_name, by_reflection, is_exported}
 use Rattle.glk_closure.specs.Marks.{Waits, Extends, ExtendsIf, AllBack}
 use Rattle.glk_closure.specs.Search.{WaitsForCalls, WaitsByType}
 use Rattle.glk_closure.proofs.Growth.{ExtendsIf-then, ExtendsIf-of}

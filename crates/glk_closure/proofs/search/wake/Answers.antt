@@ -1,11 +1,10 @@
-use Rattle.std.proofs.Common.{◌≡◌, ◌<◌, ◌+◌, ℕ, List, length, get_or, refl, sym, ap, ◌∙◌, subst, arith, below_more}
+use Rattle.std.proofs.Common.{◌≡◌, ◌<◌, List, length, get_or, refl, sym, ap, ◌∙◌, subst, arith, below_more}
 use Rattle.std.specs.List.{Contains}
 use Rattle.std.proofs.lemmas.List.{get_or_default}
 use Rattle.glk_closure.specs.declared.effect.Targets.{Targets}
 use Rattle.glk_closure.specs.declared.marks.Marks.{Marks}
 use Rattle.glk_closure.specs.Graph.{Graph}
-use Rattle.glk_closure.specs.Reach.{Fact, Kept, Reach}
-use Rattle.glk_closure.specs.Rows.{Stands}
+use Rattle.glk_closure.specs.Reach.{Kept, Reach}
 use Rattle.glk_closure.specs.Marks.{methods_at, AllKept}
 use Rattle.glk_closure.proofs.Growth.{ExtendsIf-refl, ExtendsIf-then, SameRows-refl, SameRows-trans}
 use Rattle.glk_closure.proofs.Rowing.{row_read_methods}

@@ -1,11 +1,9 @@
-use Rattle.std.proofs.Common.{◌≡◌, ◌∙◌, sym, ap, refl, rules, length, List, subst, arith}
+use Rattle.std.proofs.Common.{◌≡◌, sym, ap, refl, rules, length, List, subst}
 use Rattle.glk_closure.specs.declared.name.Name.{Name}
-use Rattle.glk_closure.specs.declared.name.Signature.{Signature}
-use Rattle.glk_closure.specs.declared.call.Call.{Call}
 use Rattle.glk_closure.specs.declared.call.Call.TheVariants as call
-use Rattle.glk_closure.specs.Reach.{Fact, Sig, Named, Reflect}
-use Rattle.glk_closure.specs.Rows.{Numbers, Stands}
-use Rattle.glk_closure.specs.CallTable.{fact_of, facts_of}
+use Rattle.glk_closure.specs.Reach.{Fact, Named}
+use Rattle.glk_closure.specs.Rows.{Numbers}
+use Rattle.glk_closure.specs.CallTable.{facts_of}
 use Rattle.glk_closure.proofs.CallLemmas.{facts_push, facts_length, fits_unchanged, numbers_old, numbers_new, fresh_name, fits_name}
 use Rattle.glk_closure.proofs.call_table.CallTable.named_row.Goals as goal
 

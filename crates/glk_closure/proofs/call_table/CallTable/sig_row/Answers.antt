@@ -1,12 +1,11 @@
-use Rattle.std.proofs.Common.{ℕ, ◌≡◌, ◌∙◌, sym, ap, refl, rules, length, List, subst, arith}
+use Rattle.std.proofs.Common.{ℕ, ◌≡◌, ◌∙◌, sym, ap, refl, rules, length, List, subst}
 use Rattle.std.proofs.lemmas.Option.{same_Some}
 use Rattle.glk_closure.specs.declared.name.Name.{Name}
 use Rattle.glk_closure.specs.declared.name.Signature.{Signature}
-use Rattle.glk_closure.specs.declared.call.Call.{Call}
 use Rattle.glk_closure.specs.declared.call.Call.TheVariants as call
-use Rattle.glk_closure.specs.Reach.{Fact, Sig, Named, Reflect}
+use Rattle.glk_closure.specs.Reach.{Fact, Sig, Named}
 use Rattle.glk_closure.specs.Rows.{Numbers, Stands}
-use Rattle.glk_closure.specs.CallTable.{fact_of, facts_of}
+use Rattle.glk_closure.specs.CallTable.{facts_of}
 use Rattle.glk_closure.proofs.CallLemmas.{facts_push, facts_length, fits_unchanged, numbers_old, numbers_new, fresh_sig, fits_sig}
 use Rattle.glk_closure.proofs.call_table.CallTable.sig_row.Goals as goal
 

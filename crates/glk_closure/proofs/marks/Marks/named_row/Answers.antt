@@ -1,7 +1,6 @@
-use Rattle.std.proofs.Common.{rules, ◌≡◌, refl, length, false}
+use Rattle.std.proofs.Common.{rules, refl, false}
 use Rattle.glk_closure.specs.declared.marks.Marks.{Marks}
 use Rattle.glk_closure.specs.declared.marks.WaitingRow.{WaitingRow}
-use Rattle.glk_closure.specs.Graph.{Graph}
 use Rattle.glk_closure.specs.Reach.{Named}
 use Rattle.glk_closure.proofs.Rowing.{number_push, number_none}
 use Rattle.glk_closure.proofs.marks.Marks.named_row.Goals as goal
