@@ -1,15 +1,13 @@
 -- Objects and archives past their limits.
-use Rattle.std.proofs.Common.{◌≡◌, ◌<◌, ℕ, List, length, nat_lt, true, Err, refl, subst, arith}
+use Rattle.std.proofs.Common.{◌≡◌, ◌<◌, ℕ, length, nat_lt, true, Err, refl, subst, arith}
 use Rattle.std.proofs.lemmas.Bool.Decides.{nat_tests}
 use Rattle.glk_base.specs.declared.fault.TooBig.{TooBig}
 use Rattle.glk_base.specs.declared.fault.Fault.{Fault}
 use Rattle.glk_base.specs.declared.fault.Fault.TheVariants as fault
-use Rattle.glk_ar.specs.Written.{archive_length}
-use Rattle.glk_base.specs.Limits.{file_limit}
 use Rattle.glk_objdesc.specs.declared.desc.ObjDesc.{ObjDesc}
 use Rattle.glk_objdesc.specs.Canonical.{object_bytes, object_limit, clamped, IsPast, Refuses}
 use Rattle.glk_tools.specs.declared.text_archive.MakeBad.TheVariants as bad
-use Rattle.glk_tools.specs.TextArchive.{archive_of_description, archive_of_object, too_big}
+use Rattle.glk_tools.specs.TextArchive.{archive_of_description, too_big}
 
 past : (a b : ℕ) → a < b → nat_lt a b ≡ true
 past a b l = grind (arith, nat_tests, l)

@@ -4,10 +4,8 @@ use Rattle.std.specs.Prelude.{Result}
 use Rattle.std.specs.declared.alloc.Global.{Global}
 use Rattle.glk_base.specs.declared.fault.Fault.{Fault}
 use Rattle.glk_base.specs.declared.fault.Fault.TheVariants as fault
-use Rattle.glk_io.specs.Contents.{IfKnown}
-use Rattle.glk_io.specs.Changes.{FileState, SinkState, FilesUnchanged, SinkUnchanged}
+use Rattle.glk_io.specs.Changes.{FileState, SinkState}
 use Rattle.glk_cause.specs.declared.cause.Cause.{Cause}
-use Rattle.glk_cause.specs.declared.cause.Cause.TheVariants as cause
 use Rattle.glk_cause.specs.Sorts.{Sort, by_reads, by_writes, of_file, of_package, of_input, of_config, of_options, of_link, foreign, sort_of}
 use Rattle.glk_cause.specs.Chain.{stops, goes_on, Answers}
 use Rattle.glk_cause.specs.Reading.{AnswersByReading, IsOfPath, IsWhole}
@@ -16,7 +14,6 @@ use Rattle.glk_cause.proofs.ReadingLaws.{always, always_known, IsPure, reading_s
 use Rattle.glk_cause.proofs.PrintingLaws.{printing_stopped, printing_done, printing_failed}
 use Rattle.glk_package.specs.declared.refusal.PackageBad.{PackageBad}
 use Rattle.glk_package.specs.declared.refusal.PackageBad.TheVariants as bad
-use Rattle.glk_tools.specs.PackageText.{IsPackageText}
 use Rattle.glk_tools.specs.Stdout.{stdout, Prints}
 use Rattle.glk_package.specs.PackageRefusal.{refusal_of}
 use Rattle.glk_tools.specs.Dump.{package_limit, IsTextOf, GivesText, IsOneDump, IsOfPackageFile, PackageAnswer, DumpAllows, DumpAnswer, DumpUnlessIoFails}

@@ -1,10 +1,9 @@
 -- `mkobj`: its text is read, made an archive, and written.
-use Rattle.std.proofs.Common.{◌≡◌, ◌∙◌, List, ℕ, Ok, Err, Vec, refl, sym, ap, subst}
+use Rattle.std.proofs.Common.{◌≡◌, ◌∙◌, List, ℕ, Ok, Err, Vec, refl, sym, subst}
 use Rattle.std.specs.Prelude.{Result}
 use Rattle.std.specs.declared.alloc.Global.{Global}
 use Rattle.glk_base.specs.declared.fault.Fault.{Fault}
-use Rattle.glk_io.specs.Contents.{IfKnown}
-use Rattle.glk_io.specs.Changes.{FileState, FilesUnchanged}
+use Rattle.glk_io.specs.Changes.{FileState}
 use Rattle.glk_cause.specs.declared.cause.Cause.{Cause}
 use Rattle.glk_cause.specs.Sorts.{Sort, by_reads, by_writes, of_file, of_package, of_input, of_config, of_options, of_link, foreign, sort_of}
 use Rattle.glk_cause.specs.Chain.{stops, goes_on, Answers}

@@ -1,6 +1,6 @@
 -- Answers that say what known files give are those that must come, where files give one thing.
-use Rattle.std.proofs.Common.{◌≡◌, inl, inr, refl, subst, Ok, Err, List, ℕ}
-use Rattle.std.specs.Prelude.{Result, IsOk}
+use Rattle.std.proofs.Common.{inl, inr, refl, subst, Ok, Err, List, ℕ}
+use Rattle.std.specs.Prelude.{Result}
 use Rattle.glk_base.specs.declared.fault.Fault.{Fault}
 use Rattle.glk_base.specs.declared.fault.Fault.TheVariants as fault
 use Rattle.glk_io.specs.Counts.{Rose}

@@ -1,14 +1,13 @@
 -- The text of a package file.
-use Rattle.std.proofs.Common.{◌≡◌, ◌<◌, ◌+◌, ◌++◌, ℕ, List, [], ◌∷◌, length, take, get_or, codes, Result, Ok, Err, refl, sym, ap, ◌∙◌, arith, add-one, append_assoc}
+use Rattle.std.proofs.Common.{◌≡◌, ◌<◌, ◌+◌, ◌++◌, ℕ, List, [], ◌∷◌, length, take, get_or, codes, Ok, Err, refl, sym, ap, ◌∙◌, add-one, append_assoc}
 use Rattle.std.proofs.Math.Seq.{take-suc}
 use Rattle.std.proofs.lemmas.List.{append-nil}
-use Rattle.glk_package.specs.declared.refusal.PackageBad.{PackageBad}
 use Rattle.glk_package.specs.ObjectRules.{any_rules}
 use Rattle.glk_package.specs.ObjectEntry.{ObjectEntry}
 use Rattle.glk_package.proofs.Once.{one_package}
 use Rattle.glk_objdesc.specs.Described.{description_of}
 use Rattle.glk_objtext.specs.Text.{text_of}
-use Rattle.glk_tools.specs.PackageText.{section_of, sections_of, member_name, IsOneText, IsPackageText}
+use Rattle.glk_tools.specs.PackageText.{section_of, sections_of, member_name, IsOneText}
 
 sections_append : (xs ys : List ObjectEntry) → sections_of (xs ++ ys) ≡ sections_of xs ++ sections_of ys
 unfolding sections_of

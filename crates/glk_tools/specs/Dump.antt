@@ -6,7 +6,6 @@ use Rattle.glk_io.specs.Counts.{Rose}
 use Rattle.glk_io.specs.Contents.{Contents, IfKnown}
 use Rattle.glk_io.specs.Changes.{FileState, SinkState}
 use Rattle.glk_cause.specs.declared.cause.Cause.{Cause}
-use Rattle.glk_cause.specs.declared.cause.Cause.TheVariants as cause
 use Rattle.glk_cause.specs.Sorts.{Sort, by_reads, by_writes, of_file, of_package}
 use Rattle.glk_cause.specs.Chain.{Then, IsOne}
 use Rattle.glk_cause.specs.Reading.{IsWhole, AnswersByReading}

@@ -2,7 +2,6 @@
 use Rattle.std.specs.Prelude.{◌≡◌, ℕ, List, length, if◌then◌else◌, nat_lt, Result, Ok, Err, ⊤}
 use Rattle.glk_base.specs.declared.fault.Fault.{Fault}
 use Rattle.glk_base.specs.declared.fault.Fault.TheVariants as fault
-use Rattle.glk_base.specs.declared.fault.TooBig.{TooBig}
 use Rattle.glk_ar.specs.Written.{archive_with, archive_length}
 use Rattle.glk_base.specs.Limits.{file_limit}
 use Rattle.glk_objdesc.specs.declared.desc.ObjDesc.{ObjDesc}

@@ -1,4 +1,4 @@
-use Rattle.std.proofs.Common.{◌≡◌, ◌++◌, List, ℕ, ap, ◌∙◌}
+use Rattle.std.proofs.Common.{◌++◌, ap, ◌∙◌}
 use Rattle.glk_objdesc.specs.Described.{description_of}
 use Rattle.glk_objtext.specs.Text.{text_of}
 use Rattle.glk_tools.proofs.Sections.{pushed}

@@ -1,4 +1,4 @@
-use Rattle.std.proofs.Common.{◌≡◌, ◌++◌, List, ℕ, take, sym, ap, ◌∙◌}
+use Rattle.std.proofs.Common.{◌++◌, take, sym, ap, ◌∙◌}
 use Rattle.glk_tools.specs.PackageText.{section_of, sections_of}
 use Rattle.glk_tools.proofs.Sections.{no_sections, sections_more}
 use Rattle.glk_tools.proofs.package_text.sections.Goals as goal
