@@ -6,21 +6,12 @@ use Rattle.std.proofs.lemmas.Bool.{eqb-true, eq-eqb, cases_lt}
 use Rattle.glk_table.specs.declared.ranks.RankClass.TheVariants.{Strong}
 use Rattle.glk_keys.proofs.Choosing.{is_strong_one, strong_is, not_true}
 use Rattle.glk_keys.proofs.Ranges.{AllFail, filter_filter, filter_none, filter_least, filter_some, last_greatest}
-use Rattle.glk_keys.specs.Choices.{Defines}
+use Rattle.glk_keys.specs.Choices.{Defines, IsLeastStrong, IsGreatestStrong}
 use Rattle.glk_keys.specs.Clashes.{Clash, last_from, clash_among, clash_of, begins_at, clash_at, first_clash}
 use Rattle.glk_keys.specs.Definitions.{defines, definitions_of, strong_definitions, made_name_of, first_of}
 use Rattle.glk_keys.specs.Keys.{key_id}
 use Rattle.glk_keys.specs.Programs.{Program}
 use Rattle.glk_keys.specs.Rows.{row_at, row_count, positions, is_strong}
-
--- the least, and the greatest, of the strong definitions of a key
-pub record IsLeastStrong (p : Program) (k f : ℕ) : Type 0 where
-  pub strong : Defines p k f Strong
-  pub least : (q : ℕ) → Defines p k q Strong → f ≤ q
-
-pub record IsGreatestStrong (p : Program) (k g : ℕ) : Type 0 where
-  pub strong : Defines p k g Strong
-  pub greatest : (q : ℕ) → Defines p k q Strong → q ≤ g
 
 -- no clash in a list of none or one; the first and the last of more
 clash_of_more : (f : ℕ) (rest : List ℕ) → 0 < length rest → clash_among (f ∷ rest) ≡ Some (record { first = f; second = last_from f rest })

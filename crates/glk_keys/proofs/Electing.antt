@@ -9,8 +9,7 @@ use Rattle.glk_table.proofs.RankOrder.{rank_in_order}
 use Rattle.glk_elect.specs.Answers.{VotesFor, IsLeastRankOf, IsGreatestOf}
 use Rattle.glk_elect.specs.declared.ballot.Vote.{Vote}
 use Rattle.glk_keys.proofs.Choosing.{chosen_first, chosen_none}
-use Rattle.glk_keys.proofs.Clashing.{IsLeastStrong, IsGreatestStrong}
-use Rattle.glk_keys.specs.Choices.{Defines, IsChosen, SizesFit}
+use Rattle.glk_keys.specs.Choices.{Defines, IsChosen, IsLeastStrong, IsGreatestStrong, SizesFit}
 use Rattle.glk_keys.specs.Definitions.{object_definition, size_at}
 use Rattle.glk_keys.specs.KeyLaws.{long_row_keys, nth_number, nth_vote}
 use Rattle.glk_keys.specs.KeyNumbers.{keys_of, keys_long}
@@ -139,3 +138,25 @@ module _ (p : Program) (few : row_count p ≤ row_limit) (id : ℕ) (h : id < ro
           let e = strong_rank (size_at p q) q in
           omega (arith, m, e) in
       by_class by.class a rank is_rank by.defines low
+
+  low_class : (c : RankClass) (a rank : ℕ) → rank < 2 ^ 62 → rank ≡ rank_of c (size_at p a) a → Defines p (key_id p id) a c → Defines p (key_id p id) rank Strong
+  low_class Strong a rank small e f =
+      let same : a ≡ rank = sym (e ∙ strong_rank (size_at p a) a) in
+      let P : ℕ → Type 0 = λ i. Defines p (key_id p id) i Strong in
+      subst P same f
+  low_class Shared a rank small e f = absurd (omega arith)
+  low_class Other a rank small e f = absurd (omega arith)
+
+  -- a least rank below those of all other classes is that of the least strong definition
+  pub least_strong_of : (rank : ℕ) → rank < 2 ^ 62 → IsLeastRankOf (keys_of p) (votes_of p) id (Some rank) → IsLeastStrong p (key_id p id) rank
+  least_strong_of rank small l =
+      let by = voter l.0.0 l.0.1 l.0.2 in
+      let a = l.0.0 in
+      let is_rank : rank ≡ rank_of by.class (size_at p a) a = sym l.0.3 ∙ by.rank_is in
+      record {
+        strong = low_class by.class a rank small is_rank by.defines;
+        least = λ q f.
+            let m = l.1 q _ (votes q Strong f) in
+            let e = strong_rank (size_at p q) q in
+            omega (arith, m, e);
+      }

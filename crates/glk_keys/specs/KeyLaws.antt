@@ -1,5 +1,5 @@
 -- What the key table and the election are told of a row.
-use Rattle.std.proofs.Common.{◌≡◌, ℕ, ◌<◌, length, get_or, ap, ◌∙◌, subst, arith, None}
+use Rattle.std.proofs.Common.{◌≡◌, sym, ℕ, ◌<◌, length, get_or, ap, ◌∙◌, subst, arith, None}
 use Rattle.std.specs.Prelude.{IsTrue, ◌↔◌}
 use Rattle.std.proofs.lemmas.List.{get_or-map, length-map}
 use Rattle.std.proofs.lemmas.List.FromFn.{get_or-map-range_with_len}
@@ -7,7 +7,7 @@ use Rattle.glk_table.specs.Keys.{hash_of, key_of}
 use Rattle.glk_elect.specs.Answers.{IsLeastOf}
 use Rattle.glk_elect.specs.Ballots.{vote_at}
 use Rattle.glk_keys.specs.KeyHashes.{key_hash}
-use Rattle.glk_keys.specs.KeyNumbers.{keys_of, key_at, keys_long, number_at, same_test, least_number, no_key, number_of}
+use Rattle.glk_keys.specs.KeyNumbers.{keys_of, key_at, keys_long, number_at, same_test, least_number, no_key, number_of, stands, is_at}
 use Rattle.glk_keys.specs.Keys.{Key, row_key, row_keys, same_key, key_id}
 use Rattle.glk_keys.specs.Programs.{Program}
 use Rattle.glk_keys.specs.Rows.{rows_of, row_at, row_count, no_row}
@@ -45,3 +45,22 @@ module _ (p : Program) where
   pub nth_vote : (a : ℕ) → a < row_count p → vote_at (votes_of p) a ≡ vote_of p a
   unfolding votes_of
   nth_vote a h = get_or-map-range_with_len (vote_of p) 0 (row_count p) a a None h (omega arith)
+
+  -- the row that a key is has that key
+  pub key_of_id : (id : ℕ) → id < row_count p → row_key (row_at p (key_id p id)) ≡ row_key (row_at p id)
+  key_of_id id h =
+      let l = long_row_keys in
+      let inside : id < length (row_keys p) = omega arith in
+      let same : number_of (row_keys p) (get_or (row_keys p) id no_key) ≡ key_id p id = ap (number_of (row_keys p)) (nth_key id h) in
+      let there = stands (row_keys p) id inside in
+      let hk : key_id p id < row_count p = omega (arith, there, same, l) in
+      sym (nth_key (key_id p id) hk) ∙ ap (λ k. get_or (row_keys p) k no_key) (sym same) ∙ sym (is_at (row_keys p) id inside) ∙ nth_key id h
+
+  -- and is a row
+  pub key_within : (id : ℕ) → id < row_count p → key_id p id < row_count p
+  key_within id h =
+      let l = long_row_keys in
+      let inside : id < length (row_keys p) = omega arith in
+      let same : number_of (row_keys p) (get_or (row_keys p) id no_key) ≡ key_id p id = ap (number_of (row_keys p)) (nth_key id h) in
+      let there = stands (row_keys p) id inside in
+      omega (arith, there, same, l)

@@ -62,13 +62,13 @@ same_refl (of_object o i) = both_are (o == o) (i == i) (eq-eqb o o refl) (eq-eqb
 same_refl (named a m) = both_are (m == m) (bytes_eq a a) (eq-eqb m m refl) ((bytes_decides a a).1 refl)
 
 -- a key that stands in the list stands at its number
-stands : (keys : List Key) (a : ℕ) → a < length keys → number_of keys (get_or keys a no_key) < length keys
+pub stands : (keys : List Key) (a : ℕ) → a < length keys → number_of keys (get_or keys a no_key) < length keys
 stands keys a h =
     lt_or_le (number_of keys (get_or keys a no_key)) (length keys) (λ long.
     let before : a < number_of keys (get_or keys a no_key) = omega arith in
     absurd (true≢false (sym (same_refl (get_or keys a no_key)) ∙ fails_before_first (same_key (get_or keys a no_key)) keys a no_key before)))
 
-is_at : (keys : List Key) (a : ℕ) → a < length keys → get_or keys a no_key ≡ get_or keys (number_of keys (get_or keys a no_key)) no_key
+pub is_at : (keys : List Key) (a : ℕ) → a < length keys → get_or keys a no_key ≡ get_or keys (number_of keys (get_or keys a no_key)) no_key
 is_at keys a h = same_is _ _ (passes_at_first (same_key (get_or keys a no_key)) keys no_key (stands keys a h))
 
 pub number_same : (keys : List Key) (a b : ℕ) → a < length keys → b < length keys → number_of keys (get_or keys a no_key) ≡ number_of keys (get_or keys b no_key) → get_or keys a no_key ≡ get_or keys b no_key
