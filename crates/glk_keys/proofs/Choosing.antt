@@ -174,12 +174,12 @@ module _ (p : Program) (k : ℕ) where
         first_filter (λ q. is_strong (row_at p q)) (definitions_of p k)
         ∙ find_filter (defines p k) (λ q. is_strong (row_at p q)) (positions p)
         ∙ find_least (λ q. defines p k q && is_strong (row_at p q)) 0 (row_count p) r (omega arith) (let h = mine.row in omega arith) (is_strong_one r mine)
-            (λ q low before. not_true (defines p k q && is_strong (row_at p q)) (λ e.
-            let there : q < row_count p = let h = mine.row in omega arith in
-            elim (first q Strong (strong_is q there e)) [
-              | inl same ↦ omega arith
-              | inr order ↦ let later = strong_order (size_at p r) r (size_at p q) q order in omega arith
-            ]))
+        (λ q low before. not_true (defines p k q && is_strong (row_at p q)) (λ e.
+        let there : q < row_count p = let h = mine.row in omega arith in
+        elim (first q Strong (strong_is q there e)) [
+          | inl same ↦ omega arith
+          | inr order ↦ let later = strong_order (size_at p r) r (size_at p q) q order in omega arith
+        ]))
 
     -- where the first is not strong, none is
     later_strong : (r : ℕ) (c : RankClass) → Defines p k r c → IsFirst r c → (q : ℕ) → Defines p k q Strong → (c ≡ Strong → ⊥) → ⊥

@@ -134,9 +134,9 @@ module _ (p : Program) (few : row_count p ≤ row_limit) (id : ℕ) (h : id < ro
       let a = l.0.0 in
       let is_rank : rank ≡ rank_of by.class (size_at p a) a = sym l.0.3 ∙ by.rank_is in
       let low : (q : ℕ) → Defines p (key_id p id) q Strong → rank ≤ q = λ q f.
-          let m = l.1 q _ (votes q Strong f) in
-          let e = strong_rank (size_at p q) q in
-          omega (arith, m, e) in
+      let m = l.1 q _ (votes q Strong f) in
+      let e = strong_rank (size_at p q) q in
+      omega (arith, m, e) in
       by_class by.class a rank is_rank by.defines low
 
   low_class : (c : RankClass) (a rank : ℕ) → rank < 2 ^ 62 → rank ≡ rank_of c (size_at p a) a → Defines p (key_id p id) a c → Defines p (key_id p id) rank Strong

@@ -17,7 +17,9 @@ const LAST: [u8; 6] = [0xe8, 0, 0, 0, 0, 0xc3];
 
 // Where the first function is in the image, and the last two.
 const FIRST_AT: usize = 0x1000;
+
 const SECOND_LAST_AT: usize = 0x4_f1c0;
+
 const LAST_AT: usize = 0x4_f1e0;
 
 // Room enough for any message here.
@@ -63,11 +65,7 @@ fn is_at(image: &[u8], offset: usize, bytes: &[u8]) -> bool {
 }
 
 // The image of a text.
-fn image_of<R: Threads + Sync + Abort>(
-    rt: &R,
-    alloc: Global,
-    text: &str,
-) -> Result<Vec<u8>, Fail> {
+fn image_of<R: Threads + Sync + Abort>(rt: &R, alloc: Global, text: &str) -> Result<Vec<u8>, Fail> {
     let mut files = MemFiles::new(Vec::new(alloc), Vec::new(alloc));
     match files.write_file(alloc, "t.txt", text.as_bytes()) {
         Ok(()) => (),
