@@ -51,4 +51,6 @@ pub record IsLeastOnCycle (edges : List Edge) (task : ℕ) : Type 0 where
 
 -- the tasks have one order, or none
 abbrev pub IsOneOrder : Type 0
-IsOneOrder = (count : ℕ) (edges : List Edge) (one other : List ℕ) → IsOrder count edges one → IsOrder count edges other → one ≡ other
+IsOneOrder =
+    (count : ℕ) (edges : List Edge) (one other : List ℕ) → IsOrder count edges one → IsOrder count edges other
+    → one ≡ other

@@ -48,8 +48,11 @@ pub record AreMarks (listed : List Bool) (list : List ℕ) : Type 0 where
   pub marked : (task : ℕ) → Contains list task → is_listed listed task ≡ true
   pub contained : (task : ℕ) → is_listed listed task ≡ true → Contains list task
 
+-- all targets of the task are listed
+abbrev pub AreTargetsListed : List Edge → List Bool → ℕ → Type 0
+AreTargetsListed edges listed task = (target : ℕ) → Needs edges task target → is_listed listed target ≡ true
+
 -- no task that is not listed has all its targets listed
 abbrev pub IsStuck : ℕ → List Edge → List Bool → Type 0
 IsStuck count edges listed =
-    (task : ℕ) → task < count → is_listed listed task ≡ false
-    → ((target : ℕ) → Needs edges task target → is_listed listed target ≡ true) → ⊥
+    (task : ℕ) → task < count → is_listed listed task ≡ false → AreTargetsListed edges listed task → ⊥

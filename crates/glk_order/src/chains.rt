@@ -101,7 +101,8 @@ impl<'a> Chains<'a> {
 
 // The edge of this number, if it is one.
 fn some_edge(edge: u32) -> Option<u32>
-    ensures { (stored : Option ℕ) → edge ≡ stored_edge stored → IfSome stored (λ e. e < 2 ^ 32 - 1) → result ≡ stored }
+    ensures { (stored : Option ℕ) → edge ≡ stored_edge stored → IfSome stored (λ e. e < 2 ^ 32 - 1)
+        → result ≡ stored }
 {
     if edge == NONE { None } else { Some(edge) }
 }

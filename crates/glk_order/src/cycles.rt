@@ -2,7 +2,7 @@
 ghost use Rattle.std.specs.Prelude.{◌≡◌, ◌<◌, ◌^◌, ℕ, length, true, false, IfOk, IfSome, IfNone};
 ghost use Rattle.glk_order.specs.declared.edges.End.TheVariants.{Task};
 ghost use Rattle.glk_order.specs.Order.{AreEdgesOf, Needs, IsOnCycle, IsLeastOnCycle};
-ghost use Rattle.glk_order.specs.Progress.{is_listed, IsStuck};
+ghost use Rattle.glk_order.specs.Progress.{is_listed, AreTargetsListed, IsStuck};
 
 use crate::chains::Chains;
 use crate::components::component_levels;
@@ -20,7 +20,7 @@ fn unlisted_target(needs: &Chains<'_>, listed: &[bool], task: u32) -> Option<u32
     ensures inside { IfSome result (λ target. target < length listed.now) }
     ensures unlisted { IfSome result (λ target. is_listed listed.now target ≡ false) }
     ensures target { IfSome result (Needs needs.now.edges.now task) }
-    ensures none { IfNone result ((target : ℕ) → Needs needs.now.edges.now task target → is_listed listed.now target ≡ true) }
+    ensures none { IfNone result (AreTargetsListed needs.now.edges.now listed.now task) }
 {
     let mut at = needs.last(task);
     while let Some(edge) = at {

@@ -87,12 +87,15 @@ fn close_edges(
     requires none_open { slice_index open_counts.old task ≡ 0 }
     requires counts { AreOpen (length users.now.lasts.items) users.now.edges.now listed.old open_counts.old }
     requires closed { AreClosed listed.old open_counts.old }
-    requires ready { AreReady (length users.now.lasts.items) (slice_set listed.old task true) open_counts.old ready.old }
+    requires ready { AreReady (length users.now.lasts.items) (slice_set listed.old task true)
+        open_counts.old ready.old }
 
     ensures marks { OnOk result (listed.new ≡ slice_set listed.old task true) }
-    ensures counts { OnOk result (AreOpen (length users.now.lasts.items) users.now.edges.now listed.new open_counts.new) }
+    ensures counts { OnOk result (AreOpen (length users.now.lasts.items) users.now.edges.now
+        listed.new open_counts.new) }
     ensures closed { OnOk result (AreClosed listed.new open_counts.new) }
-    ensures ready { OnOk result (AreReady (length users.now.lasts.items) listed.new open_counts.new ready.new) }
+    ensures ready { OnOk result (AreReady (length users.now.lasts.items)
+        listed.new open_counts.new ready.new) }
 {
     listed[task as usize] = true;
     let mut at = users.last(task);

@@ -30,7 +30,8 @@ fn see_targets(
     requires ends { needs.now.end ≡ Task }
     requires task { task < length needs.now.lasts.items }
     requires size { length seen.old ≡ length needs.now.lasts.items }
-    ensures { OnOk result (SeesTargets needs.now.edges.now task seen.old seen.new work.old.items work.new.items) }
+    ensures { OnOk result (SeesTargets needs.now.edges.now task seen.old seen.new
+        work.old.items work.new.items) }
 {
     let mut at = needs.last(task);
     while let Some(edge) = at {
