@@ -5,7 +5,7 @@ use Rattle.std.proofs.lemmas.List.Elements.{All-nil, All-cons, All-append}
 use Rattle.glk_cause.specs.declared.cause.Cause.{Cause}
 use Rattle.glk_cause.proofs.ChainLaws.{then_given, finds_given}
 use Rattle.glk_io.specs.Contents.{Contents}
-use Rattle.glk_package.specs.HeaderRule.{HeaderRule}
+use Rattle.glk_package.specs.ObjectRules.{ObjectRules}
 use Rattle.glk_package.proofs.Room.{whole as objects_whole, fit}
 use Rattle.glk_arena.specs.World.{Package}
 use Rattle.glk_arena.specs.Stored.{IsWhole}
@@ -20,7 +20,7 @@ same_packages a b e = cc
 no_packages : (refusal : Cause) (b : List Package) → (let r : Result (List Package) Cause = Err refusal in r) ≡ Ok b → ⊥
 no_packages refusal b e = cc
 
-formats_whole : (inputs : LoadInputs) (wanted : HeaderRule) (paths files : List (List ℕ)) (answer : Result (List Package) Cause) (wave : List Package)
+formats_whole : (inputs : LoadInputs) (wanted : ObjectRules) (paths files : List (List ℕ)) (answer : Result (List Package) Cause) (wave : List Package)
     → Formats inputs wanted paths files answer → answer ≡ Ok wave → All IsWhole wave
 formats_whole inputs wanted paths files answer wave (all_whole w) e = subst (λ (v : List Package). All IsWhole v) (same_packages [] wave e) (All-nil IsWhole)
 formats_whole inputs wanted paths files answer wave (broken w path ps file fs fault h) e = absurd (no_packages _ wave e)
