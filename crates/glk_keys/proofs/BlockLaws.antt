@@ -38,7 +38,7 @@ by_hash true false = refl
 by_hash false true = refl
 by_hash false false = refl
 
-content_is : (b : List ℕ) (i : ℕ) → i < first_reference b → content_at b i ≡ data_at b i
+pub content_is : (b : List ℕ) (i : ℕ) → i < first_reference b → content_at b i ≡ data_at b i
 unfolding content_at
 content_is b i h = rw (lt_true i (first_reference b) h) refl
 

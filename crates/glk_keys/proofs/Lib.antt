@@ -1,6 +1,7 @@
 pub mod BlockLaws
 pub mod Choosing
 pub mod Clashing
+pub mod ContentLaws
 pub mod Electing
 pub mod HashLaws
 pub mod KeyNames

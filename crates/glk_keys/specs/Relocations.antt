@@ -1,5 +1,5 @@
 -- The relocations and auxes of rows.
-use Rattle.std.specs.Prelude.{ℕ, ◌%◌, ◌^◌, Bool, List, [], map, Option, if◌then◌else◌}
+use Rattle.std.specs.Prelude.{pos, ℕ, ◌%◌, ◌^◌, Bool, List, [], map, Option, if◌then◌else◌}
 use Rattle.std.specs.List.{range_with_len}
 use Rattle.glk_obj.specs.Flags.{has_bit}
 use Rattle.glk_obj.specs.Numbers.{kind_of}
@@ -27,6 +27,13 @@ relocs_of p r =
 unfoldable pub auxes_of : Program → ℕ → List Aux
 auxes_of p r =
     if is_definition (row_at p r) then object_auxes (object_at p (row_at p r).object) (row_at p r).local else []
+
+-- what follows the last relocation, and the last aux
+abbrev pub no_reloc : Reloc
+no_reloc = record { off = pos 0; size = 0; kind = 0; add = pos 0; target = record { pkg = 0; sym = 0 } }
+
+abbrev pub no_aux : Aux
+no_aux = record { kind = 0; target = record { pkg = 0; sym = 0 } }
 
 -- the bit of a relocation's number that says that it is weak
 abbrev pub weak_bit : ℕ

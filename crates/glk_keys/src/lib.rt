@@ -4,6 +4,7 @@
 
 mod ballot;
 mod blocks;
+mod contents;
 mod keys;
 mod made_names;
 mod objects;
