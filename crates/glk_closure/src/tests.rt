@@ -61,7 +61,7 @@ fn is_target_below(target: Option<u32>, n: usize) -> bool
 }
 
 fn is_effect_below(effect: Effect<'static>, n: usize) -> bool
-    ensures { result ≡ effect_below n effect }
+    ensures { result ≡ effect_below n effect.entry }
 {
     match effect {
         Effect::Keeps(t) | Effect::Links(t) | Effect::Funcdata(t) | Effect::Uses(t) => (t as usize)
