@@ -1,7 +1,7 @@
 // The builtin list: the functions that the compiler calls by their number in a list of its own.
-ghost use Rattle.std.specs.Prelude.{◌≡◌, ◌<◌, ◌++◌, ◌⊎◌, ◌∷◌, ◌↔◌, ℕ, List, [], length, true, false, IsTrue, IfOk, IfErr, OnOk, slice_get, option_copied};
+ghost use Rattle.std.specs.Prelude.{◌≡◌, [], length, false, IfOk, IfErr, OnOk, slice_get, option_copied};
 ghost use Rattle.glk_base.specs.Lines.{lines, is_skipped as skipped, AllGood};
-ghost use Rattle.glk_arena.specs.Builtins.{Builtin as BuiltinValue, IsGood, IsGoodLine, AreListed, IsFaultOf};
+ghost use Rattle.glk_arena.specs.Builtins.{IsGoodLine, AreListed, IsFaultOf};
 ghost use Rattle.glk_arena.specs.BuiltinLines.{IsGivenBy, TakesLine};
 
 use glk_base::lines::{after_word, cut_line, first_word, is_skipped, is_text, small_number, trim};
