@@ -1,14 +1,13 @@
 -- What a builtin list has after some lines of a file.
-use Rattle.std.proofs.Common.{◌≡◌, ◌+◌, ◌-◌, ◌<◌, ◌++◌, ◌∙◌, ◌^◌, ◌⊎◌, inl, inr, ℕ, Bool, true, false, not, cond, List, [], ◌∷◌, length, take, drop, map, get_or, min, refl, ap, sym, subst, arith, Option, Some, None}
+use Rattle.std.proofs.Common.{◌≡◌, ◌+◌, ◌-◌, ◌<◌, ◌++◌, ◌∙◌, ◌^◌, inl, inr, ℕ, Bool, true, false, not, cond, List, [], ◌∷◌, length, take, drop, map, get_or, min, ap, sym, subst, arith, Option, Some, None}
 use Rattle.std.specs.List.{filter}
 use Rattle.std.proofs.lemmas.List.{take_more, take_all, map-append, append-nil}
 use Rattle.std.proofs.lemmas.List.Elements.{filter-append}
-use Rattle.std.proofs.lemmas.Bool.{false≢true}
 use denote.Ref.{Bor}
 use Rattle.glk_base.specs.Lines.{lines, left_lines, trimmed_line, is_skipped, line_at, IsCut, HasRead, IsFirstBad}
 use Rattle.glk_base.proofs.Cuts.{start_read, next_line, read_good, read_bad, read_whole, read_all}
 use Rattle.glk_arena.specs.Builtins.{Builtin, Gives, IsGood, IsGoodLine, read_lines, EachGives, AreListed}
-use Rattle.glk_arena.specs.BuiltinLines.{TakesLine, Adds}
+use Rattle.glk_arena.specs.BuiltinLines.{TakesLine}
 
 -- How far the lines are read: they are good, and the list has what they give.
 pub record HasListed (ls : List (List ℕ)) (list : List Builtin) (rest : Option (Bor (List ℕ))) (number : ℕ) : Type 0 where

@@ -1,4 +1,4 @@
-use Rattle.std.proofs.Common.{rules, ◌≡◌, subst, sym, Bool, true, false}
+use Rattle.std.proofs.Common.{rules, subst}
 use Rattle.glk_base.specs.Lines.{lines}
 use Rattle.glk_arena.specs.BuiltinLines.{TakesLine}
 use Rattle.glk_arena.proofs.BuiltinLemmas.{start_listed, more_listed, bad_listed, whole_good, whole_listed}
