@@ -1,0 +1,14 @@
+pub mod FirstUseLemmas
+pub mod ListLemmas
+pub mod MemberLemmas
+pub mod OffsetLemmas
+pub mod SectionLemmas
+pub mod ReadBack
+pub mod FoundBack
+pub mod BucketSteps
+pub mod PoolLemmas
+pub mod AddLemmas
+pub mod FileSteps
+pub mod RecordSteps
+pub mod Assembly
+pub mod WitnessLemmas

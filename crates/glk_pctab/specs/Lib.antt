@@ -1,0 +1,10 @@
+pub mod FirstUse
+pub mod Functions
+pub mod Section
+pub mod Sound
+pub mod Laws
+pub mod Views
+pub mod Contents
+pub mod Building
+pub mod Parts
+pub mod Witness
