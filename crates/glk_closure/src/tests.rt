@@ -156,7 +156,7 @@ fn a_program_keeps_what_the_rules_give(rt: HostRuntime) -> Result<(), Fail> {
         method(None, 16, 11, None),
     ];
     effects.push(methods.to_vec(alloc)?)?;
-    while effects.len() < 19 {
+    for _ in 5..19 {
         effects.push(Vec::new(alloc))?;
     }
     let program = match program_of([0].to_vec(alloc)?, effects) {
