@@ -10,8 +10,6 @@ mod lists;
 mod pool;
 mod records;
 mod section;
-#[cfg(test)]
-mod tests;
 mod trees;
 
 pub use buckets::push_findfunctab;
