@@ -1,14 +1,14 @@
 -- Which definition of a key is chosen, and which of its definitions clash, in words of an order of definitions.
-use Rattle.std.proofs.Common.{◌≡◌, ℕ, ◌+◌, ◌-◌, ◌^◌, ◌<◌, ◌≤◌, ◌⊎◌, List, [], ◌∷◌, Bool, true, false, Option, Some, None, inl, inr, refl, sym, ap, ◌∙◌, subst, arith, true≢false, length}
+use Rattle.std.proofs.Common.{◌≡◌, ℕ, ◌^◌, ◌<◌, ◌≤◌, ◌⊎◌, List, [], Bool, true, false, Some, None, inl, inr, refl, sym, ap, ◌∙◌, subst, arith, true≢false}
 use Rattle.std.specs.Prelude.{◌&&◌, ◌==◌, nat_le, if◌then◌else◌}
-use Rattle.std.specs.List.{filter, find, list_all, range_with_len}
+use Rattle.std.specs.List.{filter}
 use Rattle.std.specs.Option.{option_or}
-use Rattle.std.proofs.lemmas.Bool.{eqb-true, eq-eqb, cases_lt}
+use Rattle.std.proofs.lemmas.Bool.{eqb-true, eq-eqb}
 use Rattle.std.proofs.lemmas.Bool.Decides.{nat_tests}
-use Rattle.glk_table.specs.Ranks.{IsBefore, class_number, size_number}
+use Rattle.glk_table.specs.Ranks.{IsBefore}
 use Rattle.glk_table.specs.declared.ranks.RankClass.{RankClass}
 use Rattle.glk_table.specs.declared.ranks.RankClass.TheVariants.{Strong, Shared, Other}
-use Rattle.glk_keys.proofs.Ranges.{AllFail, first_filter, find_filter, filter_filter, find_none, find_least, filter_none, all_pass, some_fails}
+use Rattle.glk_keys.proofs.Ranges.{first_filter, find_filter, filter_filter, find_none, find_least, filter_none, all_pass, some_fails}
 use Rattle.glk_keys.specs.Choices.{Defines, IsChosen, SizesFit}
 use Rattle.glk_keys.specs.Definitions.{defines, definitions_of, strong_definitions, shared_definitions, size_at, is_largest, first_largest, first_of, object_definition}
 use Rattle.glk_keys.specs.Keys.{key_id}

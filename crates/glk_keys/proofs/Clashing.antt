@@ -1,11 +1,11 @@
 -- Which strong definitions of a key clash, by the least and the greatest of them.
-use Rattle.std.proofs.Common.{◌≡◌, ℕ, zero, suc, ◌+◌, ◌-◌, ◌<◌, ◌≤◌, List, [], ◌∷◌, Bool, true, false, Option, Some, None, inl, inr, refl, sym, ap, ◌∙◌, subst, arith, length}
+use Rattle.std.proofs.Common.{◌≡◌, ℕ, zero, suc, ◌+◌, ◌-◌, ◌<◌, ◌≤◌, List, [], ◌∷◌, Bool, true, false, Option, Some, None, inl, inr, refl, ap, ◌∙◌, subst, arith, length}
 use Rattle.std.specs.Prelude.{◌&&◌, ◌==◌, is_some, if◌then◌else◌}
-use Rattle.std.specs.List.{filter, filter_map, cons_option, range_with_len}
+use Rattle.std.specs.List.{filter, filter_map, range_with_len}
 use Rattle.std.proofs.lemmas.Bool.{eqb-true, eq-eqb, cases_lt}
 use Rattle.glk_table.specs.declared.ranks.RankClass.TheVariants.{Strong}
 use Rattle.glk_keys.proofs.Choosing.{is_strong_one, strong_is, not_true}
-use Rattle.glk_keys.proofs.Ranges.{AllFail, filter_filter, filter_none, filter_least, filter_some, last_greatest}
+use Rattle.glk_keys.proofs.Ranges.{filter_filter, filter_none, filter_least, filter_some, last_greatest}
 use Rattle.glk_keys.specs.Choices.{Defines, IsLeastStrong, IsGreatestStrong}
 use Rattle.glk_keys.specs.Clashes.{Clash, last_from, clash_among, clash_of, begins_at, clash_at, first_clash}
 use Rattle.glk_keys.specs.Definitions.{defines, definitions_of, strong_definitions, made_name_of, first_of}

@@ -1,17 +1,16 @@
 -- What a row that is a symbol of an object holds.
-use Rattle.std.proofs.Common.{◌≡◌, ℕ, ◌+◌, ◌-◌, ◌<◌, ◌≤◌, List, [], Bool, true, false, length, get_or, refl, inl, inr, sym, ap, ◌∙◌, subst, arith, true≢false, ltb}
-use Rattle.std.specs.List.{sum_by}
+use Rattle.std.proofs.Common.{◌≡◌, ℕ, ◌-◌, ◌<◌, ◌≤◌, List, true, false, length, get_or, refl, inl, inr, sym, ap, ◌∙◌, arith, true≢false}
 use Rattle.std.proofs.lemmas.Bool.{cases_lt}
 use Rattle.std.proofs.lemmas.List.FromFn.{get_or-map-range_with_len, length-map-range_with_len}
-use Rattle.glk_arena.specs.World.{objects_of, symbol_count}
-use Rattle.glk_base.proofs.Groups.{lt_true, lt_false}
-use Rattle.glk_obj.specs.Records.{Reloc, Aux, symbols, definitions, reloc_count, reloc_at, aux_count, aux_at, data_at}
+use Rattle.glk_arena.specs.World.{symbol_count}
+use Rattle.glk_base.proofs.Groups.{lt_false}
+use Rattle.glk_obj.specs.Records.{definitions, reloc_count, reloc_at, aux_count, aux_at, data_at}
 use Rattle.glk_keys.proofs.BlockLaws.{content_is}
 use Rattle.glk_keys.specs.LocalIndices.{first_hashed64, first_hashed, first_named, first_reference}
 use Rattle.glk_keys.specs.Programs.{Program}
 use Rattle.glk_keys.specs.Relocations.{relocs_of, auxes_of, object_relocs, object_auxes, no_reloc, no_aux}
 use Rattle.glk_keys.specs.RowLaws.{row_of_own}
-use Rattle.glk_keys.specs.Rows.{Row, Origin, is_definition, is_from_definition, origin_at, object_at, object_row, row_at, row_count}
+use Rattle.glk_keys.specs.Rows.{Row, is_definition, is_from_definition, origin_at, object_at, object_row, row_at, row_count}
 
 -- a symbol from the first reference on is none of a definition
 reference_at : (b : List ℕ) (i : ℕ) → first_reference b ≤ i → is_from_definition (origin_at b i) ≡ false

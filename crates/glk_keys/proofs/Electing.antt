@@ -1,8 +1,8 @@
 -- What a poll of the rows answers, in words of definitions.
-use Rattle.std.proofs.Common.{◌≡◌, ℕ, ◌^◌, ◌<◌, ◌≤◌, ◌⊎◌, inl, inr, Bool, true, false, length, get_or, sym, ap, ◌∙◌, refl, subst, arith, Option, Some, None, true≢false}
+use Rattle.std.proofs.Common.{◌≡◌, ℕ, ◌^◌, ◌<◌, ◌≤◌, ◌⊎◌, inl, inr, true, false, sym, ap, ◌∙◌, refl, subst, arith, Option, Some, None, true≢false}
 use Rattle.std.specs.Option.{option_map, option_map_or}
 use Rattle.std.proofs.lemmas.Bool.{cases_lt}
-use Rattle.glk_table.specs.Ranks.{rank_of, id_in, class_in, class_number}
+use Rattle.glk_table.specs.Ranks.{rank_of, id_in}
 use Rattle.glk_table.specs.declared.ranks.RankClass.{RankClass}
 use Rattle.glk_table.specs.declared.ranks.RankClass.TheVariants.{Strong, Shared, Other}
 use Rattle.glk_table.proofs.RankOrder.{rank_in_order}

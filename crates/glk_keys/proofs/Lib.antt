@@ -9,4 +9,5 @@ pub mod MadeLaws
 pub mod ObjectLaws
 pub mod OwnLaws
 pub mod Ranges
+pub mod ReferentLaws
 pub mod Rising

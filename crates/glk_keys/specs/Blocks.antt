@@ -5,9 +5,10 @@ use Rattle.glk_obj.specs.Records.{symbols, symbol_at, data_at, hash64_at, hash_a
 use Rattle.glk_table.specs.declared.ranks.RankClass.{RankClass}
 use Rattle.glk_table.specs.declared.ranks.RankClass.TheVariants.{Strong, Shared, Other}
 use Rattle.glk_keys.specs.declared.blocks.BlockStarts.{BlockStarts}
+use Rattle.glk_keys.specs.declared.blocks.IndexRange.{IndexRange}
 use Rattle.glk_keys.specs.declared.blocks.SymbolBlock.{SymbolBlock}
 use Rattle.glk_keys.specs.declared.blocks.SymbolBlock.TheVariants.{Symdef, Hashed64def, Hasheddef, Nonpkgdef, Nonpkgref}
-use Rattle.glk_keys.specs.LocalIndices.{first_hashed64, first_hashed, first_named, first_reference}
+use Rattle.glk_keys.specs.LocalIndices.{SymbolRange, first_hashed64, first_hashed, first_named, first_reference}
 use Rattle.glk_keys.specs.Rows.{Origin, in_symdef, in_hashed64def, in_hasheddef, in_nonpkgdef, in_nonpkgref}
 
 -- where the blocks of an object's symbols begin, in local indices
@@ -21,6 +22,10 @@ origin_in b i Hashed64def = in_hashed64def (hash64_at b (i - first_hashed64 b))
 origin_in b i Hasheddef = in_hasheddef (hash_at b (i - first_hashed b))
 origin_in b i Nonpkgdef = in_nonpkgdef
 origin_in b i Nonpkgref = in_nonpkgref
+
+-- the code's range of local indices
+abbrev pub range_view : IndexRange → SymbolRange
+range_view r = record { first = r.first; size = r.size }
 
 -- the class of a definition without a hash
 unfoldable pub flag_class_of : List ℕ → ℕ → RankClass

@@ -37,7 +37,7 @@ pair_is o i p j h = let c = both_true (o == p) (i == j) h in (eqb-true o p c.0, 
 lt_or_le : (a b : ℕ) → (b ≤ a → a < b) → a < b
 lt_or_le a b f = ⊎_elim (λ lt. lt) f (cases_lt a b)
 
-same_is : (a b : Key) → same_key a b ≡ true → a ≡ b
+pub same_is : (a b : Key) → same_key a b ≡ true → a ≡ b
 same_is (short a) (short b) h = ap short ((bytes_decides a b).0 h)
 same_is (long a) (long b) h = ap long ((bytes_decides a b).0 h)
 same_is (of_object o i) (of_object p j) h = let c : (o ≡ p) × (i ≡ j) = pair_is o i p j h in cc

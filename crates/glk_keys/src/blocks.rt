@@ -1,6 +1,7 @@
 // In which block of its object a symbol is.
-ghost use Rattle.std.specs.Prelude.{◌≡◌, ◌<◌};
-ghost use Rattle.glk_keys.specs.Blocks.{starts_of, origin_in, IsInBlock};
+ghost use Rattle.std.specs.Prelude.{◌≡◌, ◌<◌, ◌≤◌, ◌+◌};
+ghost use Rattle.glk_keys.specs.LocalIndices.{symdef_symbols, hashed64_symbols, hashed_symbols, unpackaged_symbols};
+ghost use Rattle.glk_keys.specs.Blocks.{starts_of, origin_in, range_view, IsInBlock};
 ghost use Rattle.glk_keys.specs.Rows.{origin_at};
 ghost use Rattle.glk_obj.specs.Records.{symbols};
 
@@ -45,6 +46,58 @@ impl BlockStarts {
         }
     }
 
+    // The symbols of Symdef.
+    pub fn symdef(self, object: &ObjView<'_>) -> IndexRange
+        requires { self ≡ starts_of object.now }
+        ensures range { range_view result ≡ symdef_symbols object.now }
+        ensures within { result.first + result.size ≤ symbols object.now }
+    {
+        let _ = object;
+        IndexRange {
+            first: 0,
+            size: self.hashed64,
+        }
+    }
+
+    // The symbols of Hashed64def.
+    pub fn short_hashed(self, object: &ObjView<'_>) -> IndexRange
+        requires { self ≡ starts_of object.now }
+        ensures range { range_view result ≡ hashed64_symbols object.now }
+        ensures within { result.first + result.size ≤ symbols object.now }
+    {
+        let _ = object;
+        IndexRange {
+            first: self.hashed64,
+            size: self.hashed - self.hashed64,
+        }
+    }
+
+    // The symbols of Hasheddef.
+    pub fn long_hashed(self, object: &ObjView<'_>) -> IndexRange
+        requires { self ≡ starts_of object.now }
+        ensures range { range_view result ≡ hashed_symbols object.now }
+        ensures within { result.first + result.size ≤ symbols object.now }
+    {
+        let _ = object;
+        IndexRange {
+            first: self.hashed,
+            size: self.named - self.hashed,
+        }
+    }
+
+    // The symbols of Nonpkgdef and then Nonpkgref.
+    pub fn unpackaged(self, object: &ObjView<'_>) -> IndexRange
+        requires { self ≡ starts_of object.now }
+        ensures range { range_view result ≡ unpackaged_symbols object.now }
+        ensures within { result.first + result.size ≤ symbols object.now }
+    {
+        let _ = object;
+        IndexRange {
+            first: self.named,
+            size: self.end - self.named,
+        }
+    }
+
     // The block of symbol `i` of the object.
     #[tactic(auto, unfolding(crate::specs::Blocks::starts_of, crate::specs::Rows::origin_at))]
     pub fn block(self, object: &ObjView<'_>, i: u32) -> SymbolBlock
@@ -66,4 +119,11 @@ impl BlockStarts {
             SymbolBlock::Nonpkgref
         }
     }
+}
+
+// Symbols of an object that have one local index after the other.
+#[derive(Clone, Copy, Debug)]
+pub(crate) struct IndexRange {
+    pub first: u32,
+    pub size: u32,
 }

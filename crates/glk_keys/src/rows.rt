@@ -1,6 +1,9 @@
 // The rows of a link.
-ghost use Rattle.std.specs.Prelude.{◌≡◌, ◌<◌, ◌≤◌, ◌-◌, ◌^◌, [], length, get_or, IfOk};
-ghost use Rattle.glk_arena.specs.World.{objects_of, symbol_count};
+ghost use Rattle.std.specs.Prelude.{◌≡◌, ◌<◌, ◌≤◌, ◌-◌, ◌^◌, [], length, get_or, nat_lt, min, true, ℕ, List, IfOk, IfSome};
+ghost use Rattle.glk_arena.specs.Packages.{find_package};
+ghost use Rattle.glk_obj.specs.Numbers.{kind_of};
+ghost use Rattle.glk_obj.specs.declared.numbers.Numbers.{Numbers as KindNumbers};
+ghost use Rattle.glk_arena.specs.World.{objects_of, symbol_count, first_object, object_count, paths_of};
 ghost use Rattle.glk_base.specs.Groups.{group_start};
 ghost use Rattle.glk_keys.specs.Blocks.{starts_of};
 ghost use Rattle.glk_keys.specs.Choices.{SizesFit};
@@ -17,7 +20,7 @@ use crate::objects::{LocalSymbol, Objects};
 use crate::own_symbols::{ASKED_COUNT, OWN_COUNT, asked, builtin, made};
 use glk_arena::{Builtins, Loaded};
 use glk_base::{ObjId, OutOfMemory, SymId};
-use glk_obj::{Numbers, ObjView, SymRec};
+use glk_obj::{Numbers, ObjView, RelocKind, SymRec};
 use std::alloc::Global;
 use std::marker::Model;
 
@@ -41,6 +44,17 @@ impl<'a> Model for Rows<'a> {
     ghost view = { λ r. program_of r.loaded.now r.entry.now r.builtins.now r.numbers };
 
     ghost invariant = { λ r. AreOfProgram (program_of r.loaded.now r.entry.now r.builtins.now r.numbers) r.objects };
+}
+
+/// How many rows a link of these packages and these builtins has, with the linker's own; a number past 2^64 - 1 is
+/// given as 2^64 - 1. It is the same for each name of the entry.
+pub fn row_total(loaded: &Loaded, builtins: &Builtins) -> u64
+    ensures { (entry : List ℕ) (numbers : KindNumbers)
+        → result ≡ min (row_count (program_of loaded.now entry builtins.now numbers)) (2 ^ 64 - 1) }
+{
+    loaded
+        .rows()
+        .saturating_add(OWN_COUNT as u64 + builtins.len() as u64)
 }
 
 impl<'a> Rows<'a> {
@@ -84,8 +98,8 @@ impl<'a> Rows<'a> {
         OWN_COUNT + self.builtins.len()
     }
 
-    // How many rows the objects have.
-    pub(crate) fn of_objects(&self) -> u32
+    /// How many rows the objects have. The others, after them, are the linker's own.
+    pub fn of_objects(&self) -> u32
         ensures value { result ≡ symbol_count self.now.world }
         ensures small { symbol_count self.now.world ≤ row_limit }
     {
@@ -170,6 +184,39 @@ impl<'a> Rows<'a> {
         } else {
             self.own(id.0 - of_objects)
         }
+    }
+
+    // Whether a package has an object.
+    pub(crate) fn has_object(&self, q: u32) -> bool
+        requires { q < length self.now.world }
+        ensures { result ≡ nat_lt 0 (object_count self.now.world q) }
+    {
+        0 < self.loaded.object_count(q)
+    }
+
+    // The number of the first object of a package that has one.
+    pub(crate) fn first_object(&self, q: u32) -> u32
+        requires package { q < length self.now.world }
+        requires some { nat_lt 0 (object_count self.now.world q) ≡ true }
+        ensures value { result ≡ first_object self.now.world q }
+        ensures inside { result < length (objects_of self.now.world) }
+    {
+        self.loaded.first_object(q)
+    }
+
+    // The number of the loaded package that a stored path means.
+    pub(crate) fn find_package(&self, name: &[u8]) -> Option<u32>
+        ensures value { result ≡ find_package (paths_of self.now.world) name.now }
+        ensures inside { IfSome result (λ q. q < length self.now.world) }
+    {
+        self.loaded.find_package(name)
+    }
+
+    /// The kind that a number of relocations means, if it means one. The bit that says weak is no part of the number.
+    pub fn kind(&self, number: u16) -> Option<RelocKind>
+        ensures { result ≡ kind_of self.now.numbers number }
+    {
+        self.numbers.kind(number)
     }
 
     /// The row of made name `k`.

@@ -1,9 +1,7 @@
-use Rattle.std.proofs.Common.{◌≡◌, ℕ, ◌<◌, List, length, sym, ap, ◌∙◌, subst, arith}
-use Rattle.glk_obj.specs.Positive.{IsTarget, HasDataWithin, HasFieldWithin}
-use Rattle.glk_obj.specs.Records.{Symbol, Reloc}
-use Rattle.glk_obj.specs.Views.{ref_view, reloc_view}
-use Rattle.glk_keys.proofs.ContentLaws.{row_is, object_is, content_of, relocs_count, relocs_nth, auxes_count, auxes_nth}
-use Rattle.glk_keys.specs.Rows.{Row, object_at}
+use Rattle.std.proofs.Common.{ℕ, List, sym, ◌∙◌, subst, arith}
+use Rattle.glk_obj.specs.Positive.{IsTarget}
+use Rattle.glk_obj.specs.Views.{ref_view}
+use Rattle.glk_keys.proofs.ContentLaws.{object_is, auxes_count, auxes_nth}
 use Rattle.glk_keys.proofs.rows.Rows.aux.Goals as goal
 
 pub aux-requires-clause-index : goal.aux-requires-clause-index

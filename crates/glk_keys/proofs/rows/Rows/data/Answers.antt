@@ -1,9 +1,7 @@
-use Rattle.std.proofs.Common.{◌≡◌, ℕ, ◌<◌, List, length, sym, ap, ◌∙◌, subst, arith}
-use Rattle.glk_obj.specs.Positive.{IsTarget, HasDataWithin, HasFieldWithin}
-use Rattle.glk_obj.specs.Records.{Symbol, Reloc}
-use Rattle.glk_obj.specs.Views.{ref_view, reloc_view}
-use Rattle.glk_keys.proofs.ContentLaws.{row_is, object_is, content_of, relocs_count, relocs_nth, auxes_count, auxes_nth}
-use Rattle.glk_keys.specs.Rows.{Row, object_at}
+use Rattle.std.proofs.Common.{length, sym, ◌∙◌, subst}
+use Rattle.glk_obj.specs.Positive.{HasDataWithin}
+use Rattle.glk_keys.proofs.ContentLaws.{row_is, content_of}
+use Rattle.glk_keys.specs.Rows.{Row}
 use Rattle.glk_keys.proofs.rows.Rows.data.Goals as goal
 
 pub returns-clause-value : goal.returns-clause-value

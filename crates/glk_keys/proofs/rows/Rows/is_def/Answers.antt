@@ -1,4 +1,4 @@
-use Rattle.std.proofs.Common.{◌≡◌, ℕ, List, ◌-◌, ◌≤◌, sym, ap, ◌∙◌, refl, arith}
+use Rattle.std.proofs.Common.{ℕ, List, ◌-◌, ◌≤◌, sym, ap, ◌∙◌, refl, arith}
 use Rattle.glk_arena.specs.World.{symbol_count}
 use Rattle.glk_keys.specs.RowLaws.{row_of_own}
 use Rattle.glk_keys.specs.Rows.{Row, is_definition, is_from_definition, origin_at}

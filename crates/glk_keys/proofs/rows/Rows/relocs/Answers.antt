@@ -1,9 +1,5 @@
-use Rattle.std.proofs.Common.{◌≡◌, ℕ, ◌<◌, List, length, sym, ap, ◌∙◌, subst, arith}
-use Rattle.glk_obj.specs.Positive.{IsTarget, HasDataWithin, HasFieldWithin}
-use Rattle.glk_obj.specs.Records.{Symbol, Reloc}
-use Rattle.glk_obj.specs.Views.{ref_view, reloc_view}
-use Rattle.glk_keys.proofs.ContentLaws.{row_is, object_is, content_of, relocs_count, relocs_nth, auxes_count, auxes_nth}
-use Rattle.glk_keys.specs.Rows.{Row, object_at}
+use Rattle.std.proofs.Common.{sym, ◌∙◌}
+use Rattle.glk_keys.proofs.ContentLaws.{relocs_count}
 use Rattle.glk_keys.proofs.rows.Rows.relocs.Goals as goal
 
 pub returns : goal.returns
