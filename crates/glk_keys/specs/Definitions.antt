@@ -57,6 +57,7 @@ made_number (named name abi) = if abi == abi0 then position (λ m. bytes_eq name
 abbrev pub made_name_of : Program → ℕ → Option ℕ
 made_name_of p k = made_number (row_key (row_at p k))
 
--- The chosen definition of a key, if it has one: of a made name the made one, and definitions in objects are passed over.
+-- The chosen definition of a key, if it has one: of a made name the made one, and definitions in objects are passed over. It is
+-- asked of the numbers of keys.
 unfoldable pub chosen_of : Program → ℕ → Option ℕ
 chosen_of p k = option_or (option_map (made_row p) (made_name_of p k)) (object_definition p k)

@@ -11,7 +11,7 @@ first_hashed64 b = count b symdef
 abbrev pub first_hashed : List ℕ → ℕ
 first_hashed b = count b symdef + count b hashed64def
 
--- of Nonpkgdef, the definitions to which references refer by name
+-- of Nonpkgdef
 abbrev pub first_named : List ℕ → ℕ
 first_named b = count b symdef + count b hashed64def + count b hasheddef
 

@@ -39,7 +39,7 @@ no_aux = record { kind = 0; target = record { pkg = 0; sym = 0 } }
 abbrev pub weak_bit : ℕ
 weak_bit = 15
 
--- a weak relocation keeps nothing
+-- a weak relocation; a rule that looks at one relocation looks at strong ones alone
 abbrev pub is_weak : Reloc → Bool
 is_weak reloc = has_bit reloc.kind weak_bit
 

@@ -182,7 +182,7 @@ is_hashed row = is_from_hash row.origin
 abbrev pub has_content : Row → Bool
 has_content row = not (length row.content == 0)
 
--- a definition of which there may be others of the same key
+-- a definition that is dupok, or known by a hash
 abbrev pub is_shared : Row → Bool
 is_shared row = is_definition row && (is_dupok row.symbol || is_hashed row)
 

@@ -53,7 +53,8 @@ impl<'a> Rows<'a> {
         requires definition { is_definition (row_at self.now id) ≡ true }
         ensures object { result.object < length (objects_of self.now.world) }
         ensures index { result.index < definitions (object_at self.now result.object) }
-        ensures row { row_at self.now id ≡ object_row result.object (object_at self.now result.object) result.index }
+        ensures row { row_at self.now id
+            ≡ object_row result.object (object_at self.now result.object) result.index }
     {
         self.place(id)
     }
@@ -85,7 +86,8 @@ impl<'a> Rows<'a> {
         requires definition { is_definition (row_at self.now id.0) ≡ true }
         requires index { k < length (relocs_of self.now id.0) }
         ensures value { reloc_view result ≡ get_or (relocs_of self.now id.0) k no_reloc }
-        ensures target { IsTarget (object_at self.now (row_at self.now id.0).object) (ref_view result.target) }
+        ensures target { IsTarget (object_at self.now (row_at self.now id.0).object)
+            (ref_view result.target) }
         ensures within { HasFieldWithin (row_at self.now id.0).symbol (reloc_view result) }
     {
         let at = self.definition(id.0);
@@ -108,7 +110,8 @@ impl<'a> Rows<'a> {
         requires definition { is_definition (row_at self.now id.0) ≡ true }
         requires index { k < length (auxes_of self.now id.0) }
         ensures value { aux_view result ≡ get_or (auxes_of self.now id.0) k no_aux }
-        ensures target { IsTarget (object_at self.now (row_at self.now id.0).object) (ref_view result.target) }
+        ensures target { IsTarget (object_at self.now (row_at self.now id.0).object)
+            (ref_view result.target) }
     {
         let at = self.definition(id.0);
         self.object(ObjId(at.object)).aux(at.index, k)

@@ -137,7 +137,8 @@ impl<'a> Rows<'a> {
         requires { id < symbol_count self.now.world }
         ensures object { result.object < length (objects_of self.now.world) }
         ensures index { result.index < symbols (object_at self.now result.object) }
-        ensures row { row_at self.now id ≡ object_row result.object (object_at self.now result.object) result.index }
+        ensures row { row_at self.now id
+            ≡ object_row result.object (object_at self.now result.object) result.index }
     {
         self.objects.symbol(id)
     }
