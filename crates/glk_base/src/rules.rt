@@ -5,7 +5,7 @@
 pub enum RuleFamily {
     /// Rules A1 to A7, of archives; offsets count from the file's start.
     Archive,
-    /// Rules V1 to V16, of objects; offsets count from the object's magic.
+    /// Rules V1 to V17, of objects; offsets count from the object's magic.
     Object,
 }
 
