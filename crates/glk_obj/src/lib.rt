@@ -22,8 +22,6 @@ mod references;
 mod rules;
 mod symbols;
 mod tables;
-#[cfg(test)]
-mod tests;
 mod view;
 
 pub use blocks::{

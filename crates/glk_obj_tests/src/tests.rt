@@ -1,5 +1,5 @@
 // Objects byte by byte, and what refuses them. The objects are made by hand from Go's `cmd/internal/goobj`.
-use super::{
+use glk_obj::{
     Abi, AuxKind, Block, FuncInfo, InlNode, NONE_PACKAGE, Numbers, ObjView, RelocKind, RelocRec,
     SELF_PACKAGE, SymKind, SymRec, SymRef,
 };
