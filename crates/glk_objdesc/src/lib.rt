@@ -10,8 +10,6 @@ mod pool;
 mod read;
 mod records;
 mod sizes;
-#[cfg(test)]
-mod tests;
 mod typed;
 mod write;
 

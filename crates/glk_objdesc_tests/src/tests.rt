@@ -1,7 +1,7 @@
 // What canonical objects are, and that they are read back.
-use super::{ObjDesc, describe, write_object};
 use glk_base::Fault;
 use glk_obj::ObjView;
+use glk_objdesc::{ObjDesc, describe, write_object};
 use std::alloc::{AllocError, Global};
 use std::test::Fail;
 
