@@ -15,8 +15,6 @@ mod rules;
 mod stage;
 mod strings;
 mod targets;
-#[cfg(test)]
-mod tests;
 mod values;
 mod words;
 mod write;

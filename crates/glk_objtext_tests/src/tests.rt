@@ -1,7 +1,7 @@
 // Texts that are read, refused and printed. Expected values are the format's.
-use super::{TextBad, parse, print};
 use glk_base::Fault;
 use glk_objdesc::ObjDesc;
+use glk_objtext::{TextBad, parse, print};
 use std::alloc::Global;
 use std::process::Abort;
 use std::test::Fail;
