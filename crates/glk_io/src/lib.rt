@@ -13,8 +13,6 @@ mod memory_streams;
 mod paths;
 mod streams;
 mod system;
-#[cfg(test)]
-mod tests;
 
 pub use files::{Files, ReadError, WriteError};
 pub use gate::{Gate, Open};

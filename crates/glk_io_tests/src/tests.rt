@@ -1,9 +1,9 @@
 // The system's forms, which no clause ties to the system, and what takes memory once with memory.
-use crate::{
+use glk_base::{StrText, Text};
+use glk_io::{
     Failed, Files, MemFiles, MemSink, MemSource, OsFiles, OsSink, OsSource, ReadError, Sink,
     Source, WriteError, write_pieces,
 };
-use glk_base::{StrText, Text};
 use std::alloc::Global;
 use std::fs;
 use std::os::unix::fs::MetadataExt;
