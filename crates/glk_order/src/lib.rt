@@ -9,8 +9,6 @@ mod laws;
 mod levels;
 mod order;
 mod search;
-#[cfg(test)]
-mod tests;
 
 pub use edges::Edge;
 pub use laws::one_order;

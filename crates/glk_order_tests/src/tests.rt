@@ -2,8 +2,8 @@
 ghost use Rattle.std.specs.Prelude.{◌≡◌, true};
 ghost use Rattle.glk_order.specs.Order.{AreEdgesOf};
 
-use crate::{Cycle, Edge, schedule};
 use glk_base::Fault;
+use glk_order::{Cycle, Edge, schedule};
 use std::alloc::Global;
 use std::test::Fail;
 
