@@ -18,8 +18,6 @@ mod section_headers;
 mod sections;
 mod strings;
 mod symbols;
-#[cfg(test)]
-mod tests;
 mod write;
 
 pub use laws::{images_read_back, memory_within, sections_in_file, sections_patched};
