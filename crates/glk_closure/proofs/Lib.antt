@@ -8,4 +8,3 @@ pub mod Rowing
 pub mod Places
 pub mod CallLemmas
 pub mod Methods
-pub mod SampleLemmas

@@ -7,4 +7,3 @@ pub mod Rows
 pub mod CallTable
 pub mod Marks
 pub mod Search
-pub mod Sample

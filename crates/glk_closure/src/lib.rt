@@ -12,8 +12,6 @@ mod marks;
 mod name;
 mod program;
 mod search;
-#[cfg(test)]
-mod tests;
 
 pub use effect::{Effect, Targets};
 pub use kept::{KeptSet, kept_set};

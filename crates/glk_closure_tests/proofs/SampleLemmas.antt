@@ -10,7 +10,7 @@ use Rattle.glk_closure.specs.declared.effect.Effect.TheVariants as code
 use Rattle.glk_closure.specs.declared.effect.Targets.{Targets}
 use Rattle.glk_closure.specs.Graph.{Effect}
 use Rattle.glk_closure.specs.Views.{effect_view, IsWithin, AreBelow}
-use Rattle.glk_closure.specs.Sample.{target_below, effect_below, list_below, lists_below, effects_at}
+use Rattle.glk_closure_tests.specs.Sample.{target_below, effect_below, list_below, lists_below, effects_at}
 
 target_is_below : (n : ℕ) (o : Option ℕ) (t : ℕ) → target_below n o ≡ true → o ≡ Some t → t < n
 target_is_below n (Some x) t h e = let P : ℕ → Type 0 = λ i. i < n in subst P (same_Some x t e) (ltb-true x n h)

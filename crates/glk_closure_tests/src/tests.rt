@@ -1,10 +1,10 @@
 // A program in memory with facts of all kinds.
 ghost use Rattle.std.specs.Prelude.{◌≡◌, ◌<◌, ◌^◌, length, true, nat_lt};
 ghost use Rattle.std.specs.List.{list_all};
-ghost use Rattle.glk_closure.specs.Sample.{effect_below, graph_of, list_below, lists_below, target_below};
+ghost use Rattle.glk_closure_tests.specs.Sample.{effect_below, graph_of, list_below, lists_below, target_below};
 
-use crate::{Effect, Program, Targets, kept_set};
 use glk_base::OutOfMemory;
+use glk_closure::{Effect, Program, Targets, kept_set};
 use std::test::Fail;
 
 // The effects of each symbol, and one symbol each that has no definition, that an object flags, and
