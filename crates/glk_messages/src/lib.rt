@@ -5,8 +5,6 @@ mod message;
 mod names;
 mod outcome;
 mod pieces;
-#[cfg(test)]
-mod tests;
 
 pub use message::report;
 pub use outcome::Outcome;

@@ -1,8 +1,8 @@
 // The messages of causes that no small input has, by the table of messages.
-use super::{Outcome, report};
 use glk_base::{OutOfMemory, RuleFamily, Text};
 use glk_cause::{Cause, Form, Limit, Table};
 use glk_io::MemSink;
+use glk_messages::{Outcome, report};
 use std::alloc::Global;
 use std::test::Fail;
 
