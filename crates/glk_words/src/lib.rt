@@ -4,8 +4,6 @@
 mod command_line;
 mod commands;
 mod laws;
-#[cfg(test)]
-mod tests;
 mod usage;
 mod values;
 

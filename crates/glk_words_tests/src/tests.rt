@@ -1,9 +1,7 @@
 // Command lines, and the answers that Go's `flag` package and each command's list of flags give.
-use crate::values::truth;
-use crate::{Command, CommandLine, Flag, UsageBad, Why, parse_command_line, spellings_agree};
 use glk_base::Fault;
+use glk_words::{Command, CommandLine, Flag, UsageBad, Why, parse_command_line, spellings_agree};
 use std::alloc::Global;
-use std::process::Abort;
 use std::test::Fail;
 
 // The words of a line: a space is between two.
@@ -182,26 +180,39 @@ fn a_faulty_line_has_its_first_fault(rt: HostRuntime) -> Result<(), Fail> {
     Ok(())
 }
 
+// Whether the line sets a truth flag; none where the line is refused.
+fn is_set(alloc: Global, line: &str) -> Result<Option<bool>, Fail> {
+    let words = words_of(alloc, line)?;
+    match parse_command_line(alloc, &words) {
+        Ok(CommandLine::Invocation(asked)) => Ok(Some(asked.is_set(Flag::Strip))),
+        _ => Ok(None),
+    }
+}
+
 #[test]
-fn the_words_of_truth_are_those_of_parse_bool(rt: HostRuntime) {
-    for (text, is) in [
-        ("1", Some(true)),
-        ("t", Some(true)),
-        ("T", Some(true)),
-        ("TRUE", Some(true)),
-        ("true", Some(true)),
-        ("True", Some(true)),
-        ("0", Some(false)),
-        ("f", Some(false)),
-        ("F", Some(false)),
-        ("FALSE", Some(false)),
-        ("false", Some(false)),
-        ("False", Some(false)),
-        ("tRUE", None),
-        ("yes", None),
-        ("", None),
+fn the_words_of_truth_are_those_of_parse_bool(rt: HostRuntime) -> Result<(), Fail> {
+    for (line, is) in [
+        ("link m.a", Some(false)),
+        ("link -s m.a", Some(true)),
+        ("link -s=1 m.a", Some(true)),
+        ("link -s=t m.a", Some(true)),
+        ("link -s=T m.a", Some(true)),
+        ("link -s=TRUE m.a", Some(true)),
+        ("link -s=true m.a", Some(true)),
+        ("link -s=True m.a", Some(true)),
+        ("link -s=0 m.a", Some(false)),
+        ("link -s=f m.a", Some(false)),
+        ("link -s=F m.a", Some(false)),
+        ("link -s=FALSE m.a", Some(false)),
+        ("link -s=false m.a", Some(false)),
+        ("link -s=False m.a", Some(false)),
+        ("link -s=tRUE m.a", None),
+        ("link -s=yes m.a", None),
+        ("link -s= m.a", None),
     ] {
-        assert_eq!(rt; truth(text), is, "of {text:?}");
+        let found = is_set(rt.alloc(), line)?;
+        assert_eq!(rt; found, is, "of {line:?}");
     }
     spellings_agree();
+    Ok(())
 }
