@@ -1,5 +1,5 @@
 // The messages of causes that no small input has, by the table of messages.
-use glk_base::{OutOfMemory, RuleFamily, Text};
+use glk_base::{RuleFamily, Text};
 use glk_cause::{Cause, Form, Limit, Table};
 use glk_io::MemSink;
 use glk_messages::{Outcome, report};
@@ -86,19 +86,19 @@ fn cause(alloc: Global, number: usize, name: Text) -> Cause {
     }
 }
 
-// The message of a refusal.
-fn message_of(alloc: Global, refusal: Cause) -> Result<MemSink, OutOfMemory> {
-    let mut sink = MemSink::new(alloc, 100, Vec::new(alloc))?;
+// A sink with the message of a refusal.
+fn with_message(mut sink: MemSink, refusal: Cause) -> MemSink {
     report(&mut sink, &Outcome::Refused(refusal));
-    Ok(sink)
+    sink
 }
 
 #[test]
 fn causes_have_their_messages(rt: HostRuntime) -> Result<(), Fail> {
     let alloc = rt.alloc();
     for number in 0..MESSAGES.len() {
+        let sink = MemSink::new(alloc, 100, Vec::new(alloc))?;
         let name = Text::new(alloc, b"x.f")?;
-        let sink = message_of(alloc, cause(alloc, number, name))?;
+        let sink = with_message(sink, cause(alloc, number, name));
         assert_eq!(rt; sink.bytes(), MESSAGES[number].as_bytes());
     }
     Ok(())
