@@ -1,0 +1,4 @@
+pub mod PollLaws
+pub mod RowBounds
+pub mod MarkLaws
+pub mod FindLaws

@@ -1,0 +1,5 @@
+pub mod Mergings
+pub mod Clashes
+pub mod KeyTables
+pub mod Marks
+pub mod Accessors
