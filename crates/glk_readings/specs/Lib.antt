@@ -1,0 +1,6 @@
+pub mod Symbols
+pub mod References
+pub mod Readings
+pub mod Triples
+pub mod Views
+pub mod Sample
