@@ -1,0 +1,4 @@
+pub mod ByteLemmas
+pub mod SearchLemmas
+pub mod OffsetLemmas
+pub mod MemoryLemmas

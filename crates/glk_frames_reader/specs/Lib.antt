@@ -1,0 +1,4 @@
+pub mod Opening
+pub mod Parts
+pub mod Found
+pub mod Views
