@@ -82,7 +82,7 @@ joined_patched base old mid new fields more apart first second = record {
       (Contains-append_cases fields more f in');
 }
 
-apart_right : (fields more : List Field) → AreApart (fields ++ more) → AreApart more
+pub apart_right : (fields more : List Field) → AreApart (fields ++ more) → AreApart more
 apart_right fields more apart i j d low high =
     let n : ℕ = length fields in
     let long = length-append fields more in
@@ -94,7 +94,7 @@ apart_right fields more apart i j d low high =
     let Q : Field → Type 0 = λ x. end_of (get_or (fields ++ more) (n + i) d) ≤ x.at in
     subst P left (subst Q right (apart (n + i) (n + j) d (omega arith) (omega arith)))
 
-patched_nothing : (base : ℕ) (bytes : List ℕ) → IsPatched base bytes bytes []
+pub patched_nothing : (base : ℕ) (bytes : List ℕ) → IsPatched base bytes bytes []
 patched_nothing base bytes = record {
   outside = record { size = refl; same = λ p all. refl };
   inside = λ f i p in' lt e. let h = in'.1 in absurd (omega arith);

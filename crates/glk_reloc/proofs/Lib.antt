@@ -5,3 +5,4 @@ pub mod Cuts
 pub mod Unique
 pub mod Patchable
 pub mod Joined
+pub mod ChunkSteps

@@ -5,6 +5,7 @@
 //! Nothing here takes memory.
 #![tactic(auto)]
 
+mod chunks;
 mod fields;
 mod image;
 mod laws;
@@ -13,6 +14,7 @@ mod references;
 mod tests;
 mod values;
 
+pub use chunks::{FieldChunks, patch_chunks};
 pub use fields::{Field, Overflow, patch};
 pub use image::patch_all;
 pub use laws::{
