@@ -5,6 +5,7 @@ ghost use Rattle.glk_closure_tests.specs.Sample.{effect_below, graph_of, list_be
 
 use glk_base::OutOfMemory;
 use glk_closure::{Effect, Program, Targets, kept_set};
+use std::alloc::{AllocError, Global};
 use std::test::Fail;
 
 // The effects of each symbol, and one symbol each that has no definition, that an object flags, and
@@ -129,47 +130,61 @@ fn method(
     }
 }
 
+// The effects of a key: a root's, those of what it keeps, a type's methods, or none.
+fn effects_of(alloc: Global, key: u32) -> Result<Vec<Effect<'static>>, AllocError> {
+    match key {
+        0 => [
+            Effect::Keeps(1),
+            Effect::Funcdata(2),
+            Effect::Uses(4),
+            Effect::Calls {
+                name: b"read",
+                of: 12,
+            },
+            Effect::Names(b"walk"),
+        ]
+        .to_vec(alloc),
+        1 => [Effect::Keeps(3), Effect::Keeps(4)].to_vec(alloc),
+        4 => [
+            Effect::Links(5),
+            method(Some(b"read"), 12, 6, Some(7)),
+            method(Some(b"walk"), 13, 8, None),
+            method(Some(b"Other"), 14, 9, Some(3)),
+            method(Some(b"quiet"), 15, 10, None),
+            method(None, 16, 11, None),
+        ]
+        .to_vec(alloc),
+        _ => Ok(Vec::new(alloc)),
+    }
+}
+
+// The program of 19 keys with these effects.
+fn make_sample(alloc: Global) -> Result<Sample, Fail> {
+    let mut effects = Vec::new(alloc);
+    for key in 0..19 {
+        effects.push(effects_of(alloc, key)?)?;
+    }
+    match program_of([0].to_vec(alloc)?, effects) {
+        Some(program) => Ok(program),
+        None => Err(Fail::new("the sample is wrong")),
+    }
+}
+
+// What it keeps, and what of it is used in an interface.
+fn lists(alloc: Global) -> Result<(Vec<u32>, Vec<u32>), Fail> {
+    let program = make_sample(alloc)?;
+    let kept = kept_set(alloc, &program)?;
+    let iface = kept.iface_list(alloc)?;
+    Ok((kept.list(alloc)?, iface))
+}
+
 #[test]
 fn a_program_keeps_what_the_rules_give(rt: HostRuntime) -> Result<(), Fail> {
-    let alloc = rt.alloc();
-    let mut effects = Vec::new(alloc);
-    let main = [
-        Effect::Keeps(1),
-        Effect::Funcdata(2),
-        Effect::Uses(4),
-        Effect::Calls {
-            name: b"read",
-            of: 12,
-        },
-        Effect::Names(b"walk"),
-    ];
-    effects.push(main.to_vec(alloc)?)?;
-    effects.push([Effect::Keeps(3), Effect::Keeps(4)].to_vec(alloc)?)?;
-    effects.push(Vec::new(alloc))?;
-    effects.push(Vec::new(alloc))?;
-    let methods = [
-        Effect::Links(5),
-        method(Some(b"read"), 12, 6, Some(7)),
-        method(Some(b"walk"), 13, 8, None),
-        method(Some(b"Other"), 14, 9, Some(3)),
-        method(Some(b"quiet"), 15, 10, None),
-        method(None, 16, 11, None),
-    ];
-    effects.push(methods.to_vec(alloc)?)?;
-    for _ in 5..19 {
-        effects.push(Vec::new(alloc))?;
-    }
-    let program = match program_of([0].to_vec(alloc)?, effects) {
-        Some(program) => program,
-        None => return Err(Fail::new("the sample is wrong")),
-    };
-    let kept = kept_set(alloc, &program)?;
-    let list = kept.list(alloc)?;
+    let (kept, iface) = lists(rt.alloc())?;
     assert_eq!(rt;
-        list.as_slice(),
+        kept.as_slice(),
         [0, 1, 2, 4, 5, 6, 7, 8, 9, 12, 13, 14].as_slice()
     );
-    let iface = kept.iface_list(alloc)?;
     assert_eq!(rt; iface.as_slice(), [4, 5, 12, 13, 14, 15, 16, 17].as_slice());
     Ok(())
 }
