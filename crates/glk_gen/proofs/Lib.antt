@@ -1,0 +1,4 @@
+pub mod Ranges
+pub mod UseLemmas
+pub mod Strings
+pub mod Lengths
