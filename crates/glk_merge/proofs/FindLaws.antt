@@ -4,11 +4,12 @@ use Rattle.std.specs.Prelude.{nat_lt, cond}
 use Rattle.std.specs.List.{position, position_or_len}
 use Rattle.std.proofs.lemmas.Bool.Decides.{nat_tests}
 use Rattle.std.proofs.lemmas.List.Sums.{position_or_len_is}
-use Rattle.glk_keys.specs.KeyLaws.{long_row_keys, nth_key}
+use Rattle.glk_keys.specs.KeyLaws.{long_row_keys, nth_key, key_within}
 use Rattle.glk_keys.specs.KeyNumbers.{no_key, same_is}
 use Rattle.glk_keys.specs.Keys.{Key, named, same_key, row_key, row_keys, key_id, find_key}
 use Rattle.glk_keys.specs.Programs.{Program}
 use Rattle.glk_keys.specs.Rows.{row_at, row_count}
+use Rattle.glk_merge.specs.KeyTables.{IsNamed}
 
 less_true : (a b : ℕ) → a < b → nat_lt a b ≡ true
 less_true a b h = grind (arith, nat_tests)
@@ -26,14 +27,6 @@ module _ (p : Program) (name : List ℕ) (abi : ℕ) where
   abbrev test : Key → Bool
   test = same_key (named name abi)
 
-  pub found_first : (r : ℕ) → r < row_count p → test (row_key (row_at p r)) ≡ true → ((k : ℕ) → k < r → test (row_key (row_at p k)) ≡ false) → find_key p name abi ≡ Some r
-  unfolding find_key
-  found_first r h is before =
-      let long = long_row_keys p in
-      place_some test (row_keys p) r
-      (position_or_len_is test (row_keys p) r no_key (omega arith) (λ k lt. ap test (nth_key p k (omega arith)) ∙ before k lt) (λ _. ap test (nth_key p r h) ∙ is))
-      (omega arith)
-
   pub found_none : ((k : ℕ) → k < row_count p → test (row_key (row_at p k)) ≡ false) → find_key p name abi ≡ None
   unfolding find_key
   found_none none =
@@ -41,9 +34,10 @@ module _ (p : Program) (name : List ℕ) (abi : ℕ) where
       place_none test (row_keys p) (position_or_len_is test (row_keys p) (length (row_keys p)) no_key (omega arith) (λ k lt. let h : k < row_count p = omega arith in ap test (nth_key p k h) ∙ none k h) (λ lt. absurd (omega arith)))
 
   -- some row that has it gives its key
-  pub found_by : (r : ℕ) → r < row_count p → test (row_key (row_at p r)) ≡ true → key_id p r < row_count p → find_key p name abi ≡ Some (key_id p r)
+  pub found_by : (r : ℕ) → IsNamed p name abi r → find_key p name abi ≡ Some (key_id p r)
   unfolding find_key
-  found_by r h is inside =
+  found_by r n =
       let long = long_row_keys p in
-      let same : named name abi ≡ row_key (row_at p r) = same_is (named name abi) (row_key (row_at p r)) is in
+      let inside = key_within p r n.row in
+      let same : named name abi ≡ row_key (row_at p r) = same_is (named name abi) (row_key (row_at p r)) n.same in
       place_some test (row_keys p) (key_id p r) (ap (λ (k : Key). position_or_len (same_key k) (row_keys p)) same) (omega arith)

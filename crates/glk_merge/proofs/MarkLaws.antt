@@ -1,8 +1,14 @@
 -- Marks of keys, one step further.
-use Rattle.std.proofs.Common.{◌≡◌, ℕ, zero, suc, ◌+◌, ◌<◌, List, [], ◌∷◌, Bool, true, false, refl, sym, ap, ◌∙◌, arith}
+use Rattle.std.proofs.Common.{◌≡◌, ℕ, zero, suc, ◌+◌, ◌<◌, List, [], ◌∷◌, length, Bool, true, false, refl, sym, ap, ◌∙◌, arith}
 use Rattle.std.specs.Prelude.{◌||◌, ◌&&◌, cond}
 use Rattle.std.specs.List.{list_any, filter, range_with_len}
-use Rattle.glk_merge.specs.Marks.{some_below}
+use Rattle.glk_obj.specs.Flags.{is_used_in_iface}
+use Rattle.glk_arena.specs.World.{objects_of}
+use Rattle.glk_keys.specs.Definitions.{defines, definitions_of}
+use Rattle.glk_keys.specs.Interfaces.{iface_flag, is_marked_in}
+use Rattle.glk_keys.specs.Programs.{Program}
+use Rattle.glk_keys.specs.Rows.{row_at, row_count, positions}
+use Rattle.glk_merge.specs.Marks.{some_below, row_marks}
 
 or_assoc : (a b c : Bool) → ((a || b) || c) ≡ (a || (b || c))
 or_assoc true b c = refl
@@ -40,3 +46,8 @@ any_kept f g x xs false e = e
 pub any_filter : (f g : ℕ → Bool) (xs : List ℕ) → list_any f (filter g xs) ≡ list_any (λ x. g x && f x) xs
 any_filter f g [] = refl
 any_filter f g (x ∷ xs) = any_kept f g x xs (g x) (any_filter f g xs)
+
+-- what marks a key
+pub flag_is : (p : Program) (k : ℕ) → iface_flag p k ≡ (some_below (row_marks p k) (row_count p) || some_below (is_marked_in p k) (length (objects_of p.world)))
+unfolding iface_flag definitions_of
+flag_is p k = ap (λ b. b || some_below (is_marked_in p k) (length (objects_of p.world))) (any_filter (λ r. is_used_in_iface (row_at p r).symbol) (defines p k) (positions p))

@@ -1,16 +1,21 @@
 -- Chosen definitions are rows.
-use Rattle.std.proofs.Common.{◌≡◌, ℕ, zero, suc, ◌+◌, ◌<◌, List, [], ◌∷◌, All, Bool, true, false, Option, Some, None, length, sym, ap, ◌∙◌, subst, arith}
+use Rattle.std.proofs.Common.{◌≡◌, ℕ, zero, suc, ◌+◌, ◌-◌, ◌<◌, List, [], ◌∷◌, All, Bool, true, false, Option, Some, None, length, refl, sym, ap, ◌∙◌, subst, arith}
 use Rattle.std.specs.Prelude.{cond}
 use Rattle.std.specs.List.{filter, find, range_with_len}
 use Rattle.std.specs.Option.{option_or}
 use Rattle.std.proofs.lemmas.List.Elements.{All-filter, All-head, All-tail, All-from_get_or}
 use Rattle.std.proofs.lemmas.List.FromFn.{length-range_with_len, get_or-range_with_len}
+use Rattle.glk_arena.specs.World.{objects_of}
+use Rattle.glk_base.specs.Groups.{group_of, group_start}
+use Rattle.glk_base.proofs.Groups.{group_within}
+use Rattle.glk_obj.specs.Records.{symbols}
+use Rattle.glk_keys.proofs.ContentLaws.{definition_of_object}
 use Rattle.glk_keys.specs.Definitions.{defines, definitions_of, strong_definitions, shared_definitions, first_of, first_largest, is_largest, object_definition}
 use Rattle.glk_keys.specs.MadeNames.{made_count}
 use Rattle.glk_keys.specs.Programs.{Program}
-use Rattle.glk_keys.specs.RowLaws.{all_rows, own_count}
-use Rattle.glk_keys.specs.Rows.{row_at, row_count, positions, made_row, is_strong, is_shared}
-use Rattle.glk_merge.specs.Mergings.{IsRow}
+use Rattle.glk_keys.specs.RowLaws.{all_rows, own_count, row_of_object}
+use Rattle.glk_keys.specs.Rows.{Row, row_at, row_count, positions, made_row, is_strong, is_shared}
+use Rattle.glk_merge.specs.Mergings.{IsRow, IsDefinitionRow}
 
 all_in_range : (n : ℕ) → All (λ q. q < n) (range_with_len 0 n)
 all_in_range n =
@@ -59,3 +64,13 @@ module _ (p : Program) where
       let all = all_rows p in
       let own = own_count p in
       omega arith
+
+-- a definition is of one of the objects
+pub definition_object : (p : Program) (r : ℕ) → IsDefinitionRow p r → (row_at p r).object < length (objects_of p.world)
+definition_object p r d =
+    let objects = objects_of p.world in
+    let inside = definition_of_object p r d.row d.definition in
+    let n = group_of symbols objects r in
+    let is : (row_at p r).object ≡ n = ap (λ (row : Row). row.object) (row_of_object p r n (r - group_start symbols objects n) inside refl refl) in
+    let within : n < length objects = group_within symbols objects r inside in
+    omega arith

@@ -1,10 +1,10 @@
 -- How keys and chosen definitions are kept: a number for each row.
-use Rattle.std.specs.Prelude.{◌≡◌, ℕ, ◌-◌, ◌^◌, ◌<◌, ◌==◌, Bool, false, List, length, get_or, Option, Some, None, if◌then◌else◌}
+use Rattle.std.specs.Prelude.{◌≡◌, ℕ, ◌-◌, ◌^◌, ◌<◌, ◌==◌, Bool, true, false, List, length, get_or, Option, Some, None, if◌then◌else◌}
 use Rattle.glk_keys.specs.Definitions.{chosen_of}
 use Rattle.glk_keys.specs.Interfaces.{iface_flag}
-use Rattle.glk_keys.specs.Keys.{key_id}
+use Rattle.glk_keys.specs.Keys.{key_id, named, row_key, same_key}
 use Rattle.glk_keys.specs.Programs.{Program}
-use Rattle.glk_keys.specs.Rows.{row_count}
+use Rattle.glk_keys.specs.Rows.{row_at, row_count}
 use Rattle.glk_merge.specs.Mergings.{IsKey, IsRow}
 
 -- the key of each row
@@ -35,3 +35,8 @@ pub record AreKeyTables (p : Program) (keys chosen : List ℕ) (flags : List Boo
   pub keys_are : AreKeyIds p keys
   pub chosen_are : AreChoices p chosen
   pub flags_are : AreIfaceFlags p flags
+
+-- row r has this name and ABI as its key
+pub record IsNamed (p : Program) (name : List ℕ) (abi r : ℕ) : Type 0 where
+  pub row : r < row_count p
+  pub same : same_key (named name abi) (row_key (row_at p r)) ≡ true

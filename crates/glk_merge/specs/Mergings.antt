@@ -1,10 +1,10 @@
 -- What a merge gives.
-use Rattle.std.specs.Prelude.{◌≡◌, ℕ, ◌<◌, Option, Some, None, ⊤}
+use Rattle.std.specs.Prelude.{◌≡◌, ℕ, ◌<◌, Option, Some, None, true, ⊤}
 use Rattle.glk_elect.specs.Polls.{Poll, IsPolled}
 use Rattle.glk_keys.specs.KeyNumbers.{keys_of}
 use Rattle.glk_keys.specs.Keys.{key_id}
 use Rattle.glk_keys.specs.Programs.{Program}
-use Rattle.glk_keys.specs.Rows.{row_count}
+use Rattle.glk_keys.specs.Rows.{row_at, row_count, is_definition}
 use Rattle.glk_keys.specs.Votes.{votes_of}
 use Rattle.glk_keys.specs.declared.target.Target.{Target}
 use Rattle.glk_keys.specs.declared.target.Target.TheVariants as target
@@ -23,6 +23,11 @@ IsPollOf p poll = IsPolled (keys_of p) (votes_of p) poll
 pub record IsKey (p : Program) (k : ℕ) : Type 0 where
   pub row : k < row_count p
   pub own : key_id p k ≡ k
+
+-- row r is a definition of an object
+pub record IsDefinitionRow (p : Program) (r : ℕ) : Type 0 where
+  pub row : r < row_count p
+  pub definition : is_definition (row_at p r) ≡ true
 
 -- where there is a row, it is one of the program's
 abbrev pub IsRow : Program → Option ℕ → Type 0

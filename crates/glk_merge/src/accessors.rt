@@ -11,7 +11,7 @@ ghost use Rattle.glk_merge.specs.Accessors.{key_numbers, row_numbers};
 ghost use Rattle.glk_merge.specs.Mergings.{IsKey, IsRow, IsSomeKey, IsTargetKey};
 ghost use Rattle.glk_obj.specs.Views.{ref_view};
 
-use crate::find::{find_first, find_own};
+use crate::find::find_row;
 use crate::key_tables::NO_DEFINITION;
 use crate::merged::Merged;
 use glk_base::{KeyId, ObjId, SymId};
@@ -20,13 +20,21 @@ use glk_obj::SymRef;
 use glk_table::{Elected, Place};
 
 impl<'a> Merged<'a> {
+    // The key of a row.
+    fn key_number(&self, id: u32) -> u32
+        requires { id < row_count self.now.program }
+        ensures { result ≡ key_id self.now.program id }
+    {
+        self.keys[id as usize]
+    }
+
     /// The key of a row: of the rows that are the same symbol, the least.
     pub fn key(&self, id: SymId) -> KeyId
         requires { id.0 < row_count self.now.program }
         ensures value { result.0 ≡ key_id self.now.program id.0 }
         ensures key { IsKey self.now.program result.0 }
     {
-        KeyId(self.keys[id.0 as usize])
+        KeyId(self.key_number(id.0))
     }
 
     /// The row of the chosen definition of a key, if it has one. Of a made name it is its row among the made
@@ -85,12 +93,9 @@ impl<'a> Merged<'a> {
         ensures value { key_numbers result ≡ find_key self.now.program name.now abi }
         ensures key { IsSomeKey self.now.program (key_numbers result) }
     {
-        match find_own(&self.rows, name, abi) {
+        match find_row(&self.rows, name, abi) {
             Some(id) => Some(self.key(SymId(id))),
-            None => match find_first(&self.rows, name, abi) {
-                Some(id) => Some(KeyId(id)),
-                None => None,
-            },
+            None => None,
         }
     }
 

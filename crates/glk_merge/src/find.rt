@@ -1,7 +1,8 @@
 // Looking for a name among rows.
-ghost use Rattle.std.specs.Prelude.{◌≡◌, ◌<◌, true, IfSome};
+ghost use Rattle.std.specs.Prelude.{◌≡◌, ◌<◌, IfSome, MatchOption};
 ghost use Rattle.glk_keys.specs.Keys.{find_key, named, row_key, same_key};
 ghost use Rattle.glk_keys.specs.Rows.{row_at, row_count};
+ghost use Rattle.glk_merge.specs.KeyTables.{IsNamed};
 
 use glk_base::SymId;
 use glk_keys::{Rows, SymbolKey};
@@ -20,9 +21,8 @@ fn is_named(rows: &Rows<'_>, id: u32, name: &[u8], abi: u16) -> bool
 }
 
 // Some row of the linker's own with this name and ABI.
-pub(crate) fn find_own(rows: &Rows<'_>, name: &[u8], abi: u16) -> Option<u32>
-    ensures { IfSome result (λ id. (id < row_count rows.now)
-        × (same_key (named name.now abi) (row_key (row_at rows.now id)) ≡ true)) }
+fn find_own(rows: &Rows<'_>, name: &[u8], abi: u16) -> Option<u32>
+    ensures { IfSome result (IsNamed rows.now name.now abi) }
 {
     for id in rows.of_objects()..rows.count() {
         if is_named(rows, id, name, abi) {
@@ -33,9 +33,8 @@ pub(crate) fn find_own(rows: &Rows<'_>, name: &[u8], abi: u16) -> Option<u32>
 }
 
 // The first row with this name and ABI.
-#[tactic(auto, unfolding(glk_keys::specs::Keys::find_key))]
-pub(crate) fn find_first(rows: &Rows<'_>, name: &[u8], abi: u16) -> Option<u32>
-    ensures { result ≡ find_key rows.now name.now abi }
+fn find_first(rows: &Rows<'_>, name: &[u8], abi: u16) -> Option<u32>
+    ensures { MatchOption result (find_key rows.now name.now abi ≡ None) (IsNamed rows.now name.now abi) }
 {
     for id in 0..rows.count() {
         if is_named(rows, id, name, abi) {
@@ -43,4 +42,14 @@ pub(crate) fn find_first(rows: &Rows<'_>, name: &[u8], abi: u16) -> Option<u32>
         }
     }
     None
+}
+
+// Some row with this name and ABI: one of the linker's own if there is one, else the first.
+pub(crate) fn find_row(rows: &Rows<'_>, name: &[u8], abi: u16) -> Option<u32>
+    ensures { MatchOption result (find_key rows.now name.now abi ≡ None) (IsNamed rows.now name.now abi) }
+{
+    match find_own(rows, name, abi) {
+        Some(id) => Some(id),
+        None => find_first(rows, name, abi),
+    }
 }

@@ -94,6 +94,17 @@ fn mark_objects(flags: &mut [bool], rows: &Rows<'_>, keys: &[u32])
     }
 }
 
+// Marks what the definitions and the records of flags of all rows and objects mark, where nothing is marked yet.
+fn mark_all(flags: &mut [bool], rows: &Rows<'_>, keys: &[u32])
+    requires keys { AreKeyIds rows.now keys.now }
+    requires long { length flags.old ≡ row_count rows.now }
+    requires none { (k : ℕ) → k < length flags.old → get_or flags.old k false ≡ false }
+    ensures { AreIfaceFlags rows.now flags.new }
+{
+    mark_rows(flags, rows, keys);
+    mark_objects(flags, rows, keys);
+}
+
 // At each key whether it is a type that is turned into an interface. It takes one pass over the rows and one
 // over the records of flags.
 pub(crate) fn iface_flags(
@@ -106,7 +117,6 @@ pub(crate) fn iface_flags(
 {
     let mut flags = Vec::new(alloc);
     flags.resize(rows.count() as usize, false)?;
-    mark_rows(flags.as_mut_slice(), rows, keys);
-    mark_objects(flags.as_mut_slice(), rows, keys);
+    mark_all(flags.as_mut_slice(), rows, keys);
     Ok(flags)
 }

@@ -4,12 +4,13 @@
 
 mod accessors;
 mod clash;
+mod contents;
 mod find;
 mod iface_flags;
 mod key_tables;
-mod merging;
 mod merged;
+mod merging;
 
 pub use clash::Clash;
-pub use merging::merge;
 pub use merged::Merged;
+pub use merging::merge;
