@@ -7,12 +7,10 @@ use Rattle.std.proofs.lemmas.Grind.{flat_map-append}
 use Rattle.std.proofs.lemmas.List.Concat.{flat_map-cons}
 use Rattle.std.proofs.lemmas.List.Elements.{All-nil, All-cons, All-append, All-map, All-head, All-tail}
 use Rattle.glk_obj.specs.Blocks.{count, autolib}
-use Rattle.glk_package.specs.ObjectEntry.{ObjectEntry}
 use Rattle.glk_arena.specs.declared.imports.ImportRef.{ImportRef}
 use Rattle.glk_arena.specs.World.{Package}
 use Rattle.glk_arena.specs.Imports.{Import, import_at, object_imports, package_imports, imports_of}
-use Rattle.glk_arena.specs.ImportRefs.{no_package, data_of, import_by, IsImportRef, AreImportsOf, ref_at}
-use Rattle.glk_arena.proofs.WorldLemmas.{no_object}
+use Rattle.glk_arena.specs.ImportRefs.{no_package, import_by, IsImportRef, AreImportsOf, ref_at}
 
 -- the import of a place in the list of all
 pub place_is : (world : List Package) (refs : List ImportRef) (k : ℕ) (d : ImportRef) (i : Import) → AreImportsOf world world refs → k < length refs → i ≡ import_by world (get_or refs k d)
@@ -43,17 +41,17 @@ map_twice f g [] = refl
 map_twice f g (x ∷ xs) = ap (λ ys. f (g x) ∷ ys) (map_twice f g xs)
 
 pub entries_are : (world : List Package) (owner object : ℕ)
-    → map (import_by world) (map (ref_at owner object) (range_with_len 0 (count (get_or (data_of (get_or world owner no_package)) object []) autolib)))
-    ≡ object_imports (get_or world owner no_package).path (get_or (data_of (get_or world owner no_package)) object [])
+    → map (import_by world) (map (ref_at owner object) (range_with_len 0 (count (get_or (get_or world owner no_package).objects object []) autolib)))
+    ≡ object_imports (get_or world owner no_package).path (get_or (get_or world owner no_package).objects object [])
 unfolding object_imports
-entries_are world owner object = map_twice (import_by world) (ref_at owner object) (range_with_len 0 (count (get_or (data_of (get_or world owner no_package)) object []) autolib))
+entries_are world owner object = map_twice (import_by world) (ref_at owner object) (range_with_len 0 (count (get_or (get_or world owner no_package).objects object []) autolib))
 
 all_range : (P : ℕ → Type 0) (a n : ℕ) → ((e : ℕ) → e < a + n → P e) → All P (range_with_len a n)
 all_range P a zero h = All-nil P
 all_range P a (suc n) h = All-cons P a (range_with_len (a + 1) n) (h a (omega arith)) (all_range P (a + 1) n (λ e l. h e (omega (arith, l))))
 
 pub entries_stand : (world : List Package) (owner object n : ℕ) → owner < length world → object < length (get_or world owner no_package).objects
-    → n ≡ count (get_or (data_of (get_or world owner no_package)) object []) autolib → All (IsImportRef world) (map (ref_at owner object) (range_with_len 0 n))
+    → n ≡ count (get_or (get_or world owner no_package).objects object []) autolib → All (IsImportRef world) (map (ref_at owner object) (range_with_len 0 n))
 entries_stand world owner object n o b e =
     All-map (IsImportRef world) (ref_at owner object) (range_with_len 0 n)
     (all_range (λ k. IsImportRef world (ref_at owner object k)) 0 n (λ k l. record { owner = o; object = b; entry = omega (arith, l, e) }))
@@ -62,13 +60,13 @@ entries_stand world owner object n o b e =
 pub record ArePlacesUpTo (world : List Package) (p n : ℕ) (refs : List ImportRef) : Type 0 where
   pub each : All (IsImportRef world) refs
   pub same : map (import_by world) refs
-      ≡ imports_of (take p world) ++ flat_map (λ o. object_imports (get_or world p no_package).path o.goobj) (take n (get_or world p no_package).objects)
+      ≡ imports_of (take p world) ++ flat_map (object_imports (get_or world p no_package).path) (take n (get_or world p no_package).objects)
 
 pub package_start : (world : List Package) (p : ℕ) (refs : List ImportRef) → AreImportsOf world (take p world) refs → ArePlacesUpTo world p 0 refs
 package_start world p refs are = record { each = are.each; same = are.same ∙ sym (append-nil (imports_of (take p world))) }
 
 pub package_more : (world : List Package) (p n count_of : ℕ) (before now : List ImportRef) → p < length world → n < length (get_or world p no_package).objects
-    → count_of ≡ count (get_or (data_of (get_or world p no_package)) n []) autolib → now ≡ before ++ map (ref_at p n) (range_with_len 0 count_of)
+    → count_of ≡ count (get_or (get_or world p no_package).objects n []) autolib → now ≡ before ++ map (ref_at p n) (range_with_len 0 count_of)
     → ArePlacesUpTo world p n before → ArePlacesUpTo world p (n + 1) now
 package_more world p n count_of before now l m c more are = record {
   each = subst (λ (ps : List ImportRef). All (IsImportRef world) ps) (sym more) (All-append (IsImportRef world) before (map (ref_at p n) (range_with_len 0 count_of)) are.each (entries_stand world p n count_of l m c));
@@ -76,33 +74,32 @@ package_more world p n count_of before now l m c more are = record {
       ap (map (import_by world)) more ∙ map-append (import_by world) before (map (ref_at p n) (range_with_len 0 count_of))
       ∙ ap (λ xs. xs ++ map (import_by world) (map (ref_at p n) (range_with_len 0 count_of))) are.same
       ∙ ap (λ xs. (imports_of (take p world) ++ flat_map one (take n q.objects)) ++ xs) here
-      ∙ append_assoc (imports_of (take p world)) (flat_map one (take n q.objects)) (one (get_or q.objects n no_object))
+      ∙ append_assoc (imports_of (take p world)) (flat_map one (take n q.objects)) (one (get_or q.objects n []))
       ∙ ap (λ xs. imports_of (take p world) ++ xs) (sym cut);
 }
   where
     q : Package
     q = get_or world p no_package
 
-    one : ObjectEntry → List Import
-    one o = object_imports q.path o.goobj
+    one : List ℕ → List Import
+    one = object_imports q.path
 
-    here : map (import_by world) (map (ref_at p n) (range_with_len 0 count_of)) ≡ one (get_or q.objects n no_object)
+    here : map (import_by world) (map (ref_at p n) (range_with_len 0 count_of)) ≡ one (get_or q.objects n [])
     here =
         ap (λ k. map (import_by world) (map (ref_at p n) (range_with_len 0 k))) c ∙ entries_are world p n
-        ∙ ap (object_imports q.path) (get_or-map (λ o. o.goobj) q.objects n no_object [] m)
 
-    cut : flat_map one (take (n + 1) q.objects) ≡ flat_map one (take n q.objects) ++ one (get_or q.objects n no_object)
+    cut : flat_map one (take (n + 1) q.objects) ≡ flat_map one (take n q.objects) ++ one (get_or q.objects n [])
     cut =
-        ap (flat_map one) (ap (λ k. take k q.objects) (add-one n) ∙ take-suc q.objects n no_object m)
-        ∙ flat_map-append one (take n q.objects) (get_or q.objects n no_object ∷ [])
-        ∙ ap (λ xs. flat_map one (take n q.objects) ++ xs) (flat_map-cons one (get_or q.objects n no_object) [] ∙ append-nil (one (get_or q.objects n no_object)))
+        ap (flat_map one) (ap (λ k. take k q.objects) (add-one n) ∙ take-suc q.objects n [] m)
+        ∙ flat_map-append one (take n q.objects) (get_or q.objects n [] ∷ [])
+        ∙ ap (λ xs. flat_map one (take n q.objects) ++ xs) (flat_map-cons one (get_or q.objects n []) [] ∙ append-nil (one (get_or q.objects n [])))
 
 -- imports of packages one behind the other
 pub imports_append : (some later : List Package) → imports_of (some ++ later) ≡ imports_of some ++ imports_of later
 unfolding imports_of
 imports_append some later = flat_map-append package_imports some later
 
-imports_one : (p : Package) → imports_of (p ∷ []) ≡ flat_map (λ o. object_imports p.path o.goobj) p.objects
+imports_one : (p : Package) → imports_of (p ∷ []) ≡ flat_map (object_imports p.path) p.objects
 unfolding imports_of package_imports
 imports_one p = flat_map-cons package_imports p [] ∙ append-nil (package_imports p)
 
@@ -111,7 +108,7 @@ pub package_end : (world : List Package) (p n : ℕ) (refs : List ImportRef) →
 package_end world p n refs l g are = record {
   each = are.each;
   same =
-      are.same ∙ ap (λ os. imports_of (take p world) ++ flat_map (λ o. object_imports q.path o.goobj) os) (take_all n q.objects g)
+      are.same ∙ ap (λ os. imports_of (take p world) ++ flat_map (object_imports q.path) os) (take_all n q.objects g)
       ∙ ap (λ xs. imports_of (take p world) ++ xs) (sym (imports_one q)) ∙ sym (imports_append (take p world) (q ∷ []))
       ∙ ap imports_of (sym (ap (λ k. take k world) (add-one p) ∙ take-suc world p no_package l));
 }
@@ -132,9 +129,9 @@ place_moved : (list wave : List Package) (p : ImportRef) → IsImportRef list p 
 place_moved list wave p is =
     let same : get_or (list ++ wave) p.owner no_package ≡ get_or list p.owner no_package = get_or_append_left list wave no_package p.owner is.owner in
     let P : Package → Type 0 = λ q. p.object < length q.objects in
-    let Q : Package → Type 0 = λ q. p.entry < count (get_or (data_of q) p.object []) autolib in (
+    let Q : Package → Type 0 = λ q. p.entry < count (get_or q.objects p.object []) autolib in (
       record { owner = omega (arith, is.owner, length-append list wave); object = subst P (sym same) is.object; entry = subst Q (sym same) is.entry },
-      ap (λ q. import_at q.path (get_or (data_of q) p.object []) p.entry) same,
+      ap (λ q. import_at q.path (get_or q.objects p.object []) p.entry) same,
     )
 
 pub refs_moved : (list wave now : List Package) (n : ℕ) (refs : List ImportRef) → now ≡ list ++ wave → n ≡ length list → AreImportsOf list list refs → AreImportsOf now (take n now) refs

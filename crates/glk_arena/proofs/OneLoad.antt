@@ -8,11 +8,11 @@ use Rattle.glk_cause.specs.declared.cause.Limit.TheVariants as limit
 use Rattle.glk_cause.specs.Chain.{IsOne}
 use Rattle.glk_cause.specs.Reading.{bytes_or}
 use Rattle.glk_cause.proofs.ChainLaws.{then_one, gives_one, finds_one, function_one, along_one}
-use Rattle.glk_package.specs.ObjectRules.{ObjectRules, uniform_rules, rules_after}
+use Rattle.glk_package.specs.ObjectRules.{ObjectRules, rules_after}
 use Rattle.glk_package.specs.ObjectEntry.{ObjectEntry}
 use Rattle.glk_package.proofs.Once.{one_package}
 use Rattle.glk_package.specs.PackageRefusal.{refusal_of}
-use Rattle.glk_arena.specs.World.{Package, object_entries, file_bytes}
+use Rattle.glk_arena.specs.World.{Package, rules_so_far, file_bytes}
 use Rattle.glk_arena.specs.Waves.{LoadInputs, ReadsOne, Reads, Formats, all_whole, broken, whole, broken_later, Wave, Loads, refused, last, crowded, further, next_wave, listed_count, file_of, fingerprint_refusal, missing_refusal}
 
 err_once : {A E : Type 0} (one other : E) → (let a : Result A E = Err one in let b : Result A E = Err other in a ≡ b) → one ≡ other
@@ -65,7 +65,7 @@ formats_once inputs wanted paths files a b (broken_later w p ps f fs objects c r
 wave_once : (inputs : LoadInputs) (files : Contents) (earlier : List Package) (paths : List (List ℕ)) (a b : Result (List Package) Cause) → Wave inputs files earlier paths a → Wave inputs files earlier paths b → a ≡ b
 wave_once inputs files earlier paths =
     then_one paths (reads_once inputs files (file_limit - file_bytes earlier) paths)
-    (λ read h. then_one read (formats_once inputs (rules_after uniform_rules (object_entries earlier)) paths read)
+    (λ read h. then_one read (formats_once inputs (rules_so_far earlier) paths read)
     (λ wave k. then_one wave (finds_one wave (some_once (fingerprint_refusal earlier wave)))
     (λ same m. finds_one same (some_once (missing_refusal inputs.listed earlier same)))))
 

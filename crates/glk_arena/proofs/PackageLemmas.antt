@@ -1,11 +1,10 @@
 -- Tables of spellings.
-use Rattle.std.proofs.Common.{◌≡◌, ◌+◌, ◌<◌, ◌≤◌, ◌∙◌, ◌++◌, ℕ, Bool, true, false, List, [], ◌∷◌, length, take, get_or, refl, ap, sym, arith, cond, not, eqb, nat_lt, Option, Some, None, length-append}
+use Rattle.std.proofs.Common.{◌≡◌, ◌+◌, ◌≤◌, ◌∙◌, ◌++◌, ℕ, Bool, true, false, List, [], ◌∷◌, length, refl, ap, sym, arith, cond, not, eqb, nat_lt, Option, Some, None, length-append}
 use Rattle.std.specs.List.{position, position_or_len}
 use Rattle.std.specs.Option.{option_or}
 use Rattle.std.proofs.lemmas.List.Sums.{prefix_len-le-length}
 use Rattle.std.specs.Str.{bytes_eq}
 use Rattle.std.specs.Cmp.Lexicographic.{bytes_decides}
-use Rattle.std.proofs.lemmas.List.{length-take-le, take_more}
 use Rattle.std.proofs.lemmas.List.Folds.{prefix_len-append}
 use Rattle.std.proofs.lemmas.Bool.Decides.{nat_tests}
 use Rattle.glk_base.specs.Paths.{escaped_spelling}
@@ -35,22 +34,19 @@ position_more p xs x =
     let place : position_or_len p (xs ++ x ∷ []) ≡ cond (eqb n (length xs)) (length xs + position_or_len p (x ∷ [])) n = prefix_len-append (λ y. not (p y)) xs (x ∷ []) in
     by_place n (length xs) (position_or_len p (xs ++ x ∷ [])) (length (xs ++ x ∷ [])) (p x) low whole place
 
-place_more : (test : List ℕ → Bool) (paths : List (List ℕ)) (i : ℕ) (before now : Option ℕ) → i < length paths → before ≡ position test (take i paths)
-    → now ≡ option_or before (cond (test (get_or paths i [])) (Some i) None) → now ≡ position test (take (i + 1) paths)
-place_more test paths i before now inside had is =
-    let x : List ℕ = get_or paths i [] in
-    let more : take (i + 1) paths ≡ take i paths ++ x ∷ [] = take_more paths i [] inside in
-    let long : length (take i paths) ≡ i = length-take-le i paths (omega arith) in
+place_more : (test : List ℕ → Bool) (paths : List (List ℕ)) (path : List ℕ) (place : ℕ) (before now : Option ℕ) → length paths ≡ place → before ≡ position test paths
+    → now ≡ option_or before (cond (test path) (Some place) None) → now ≡ position test (paths ++ path ∷ [])
+place_more test paths path place before now long had is =
     is
-    ∙ ap (λ o. option_or o (cond (test x) (Some i) None)) had
-    ∙ ap (λ n. option_or (position test (take i paths)) (cond (test x) (Some n) None)) (sym long)
-    ∙ sym (position_more test (take i paths) x)
-    ∙ ap (λ (l : List (List ℕ)). position test l) (sym more)
+    ∙ ap (λ o. option_or o (cond (test path) (Some place) None)) had
+    ∙ ap (λ n. option_or (position test paths) (cond (test path) (Some n) None)) (sym long)
+    ∙ sym (position_more test paths path)
 
-pub path_more : (paths : List (List ℕ)) (i : ℕ) (name : List ℕ) (before now : Option ℕ) → i < length paths → before ≡ place_of_path (take i paths) name
-    → now ≡ option_or before (cond (bytes_eq name (get_or paths i [])) (Some i) None) → now ≡ place_of_path (take (i + 1) paths) name
-path_more paths i name before now inside had is = place_more (λ path. bytes_eq name path) paths i before now inside had is
+-- one path more
+pub path_more : (paths : List (List ℕ)) (path : List ℕ) (place : ℕ) (name : List ℕ) (before now : Option ℕ) → length paths ≡ place → before ≡ place_of_path paths name
+    → now ≡ option_or before (cond (bytes_eq name path) (Some place) None) → now ≡ place_of_path (paths ++ path ∷ []) name
+path_more paths path place name before now long had is = place_more (λ p. bytes_eq name p) paths path place before now long had is
 
-pub escaped_more : (paths : List (List ℕ)) (i : ℕ) (name : List ℕ) (before now : Option ℕ) → i < length paths → before ≡ place_of_escaped (take i paths) name
-    → now ≡ option_or before (cond (bytes_eq name (escaped_spelling (get_or paths i []))) (Some i) None) → now ≡ place_of_escaped (take (i + 1) paths) name
-escaped_more paths i name before now inside had is = place_more (λ path. bytes_eq name (escaped_spelling path)) paths i before now inside had is
+pub escaped_more : (paths : List (List ℕ)) (path : List ℕ) (place : ℕ) (name : List ℕ) (before now : Option ℕ) → length paths ≡ place → before ≡ place_of_escaped paths name
+    → now ≡ option_or before (cond (bytes_eq name (escaped_spelling path)) (Some place) None) → now ≡ place_of_escaped (paths ++ path ∷ []) name
+escaped_more paths path place name before now long had is = place_more (λ p. bytes_eq name (escaped_spelling p)) paths path place before now long had is

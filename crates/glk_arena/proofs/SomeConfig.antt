@@ -1,12 +1,11 @@
 -- There is an answer for the lines of each configuration.
-use Rattle.std.proofs.Common.{◌≡◌, ◌+◌, ◌<◌, ◌≤◌, ◌⊎◌, inl, inr, ℕ, zero, suc, true, List, [], length, drop, refl, ap, sym, subst, arith, nat_eq, Option, None, Some}
+use Rattle.std.proofs.Common.{◌≡◌, ◌<◌, ◌⊎◌, inl, inr, ℕ, zero, suc, true, List, length, drop, refl, sym, subst, arith, nat_eq, Option, None, Some}
 use Rattle.std.specs.List.{starts_with, before_first, after_first}
 use Rattle.std.specs.Str.{is_utf8}
 use Rattle.std.proofs.lemmas.Bool.{cases_lt}
-use Rattle.glk_base.specs.Least.{IsLeast}
 use Rattle.glk_base.specs.Lines.{lines, is_skipped, line_at, line_number, AllGood, IsFirstBad}
 use Rattle.glk_package.proofs.Decided.{IsDecided, all_of, one_of, negated, below, is_true, same_bytes, if_same, HasLeast, least_below}
-use Rattle.glk_arena.specs.Config.{packagefile, modinfo, is_equals_sign, Lists, IsModinfo, IsGood, IsGoodLine, IsLast, IsLastFile, ConfigLines}
+use Rattle.glk_arena.specs.Config.{packagefile, modinfo, is_equals_sign, Lists, IsModinfo, IsGood, IsGoodLine, IsLastFile, ConfigLines}
 
 -- the path and the file that a line would list
 abbrev line_path : List ℕ → List ℕ

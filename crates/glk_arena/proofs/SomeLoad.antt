@@ -2,7 +2,6 @@
 use Rattle.std.proofs.Common.{◌≡◌, ◌-◌, ◌+◌, ◌<◌, ◌≤◌, ◌++◌, ◌∙◌, ◌⊎◌, inl, inr, ℕ, zero, suc, List, [], ◌∷◌, length, length-append, refl, sym, ap, arith, Option, Some, None, Result, Ok, Err}
 use Rattle.std.proofs.lemmas.Bool.{cases_lt}
 use Rattle.std.proofs.lemmas.List.{length-map}
-use Rattle.std.specs.Option.{is_none}
 use Rattle.glk_base.specs.Limits.{file_limit}
 use Rattle.glk_io.specs.Contents.{Contents, file_in}
 use Rattle.glk_cause.specs.declared.cause.Cause.{Cause}
@@ -12,13 +11,13 @@ use Rattle.glk_cause.specs.Chain.{Along, ends, takes, IsSomeAt}
 use Rattle.glk_cause.specs.Reading.{bytes_or}
 use Rattle.glk_cause.proofs.ChainLaws.{then_some, gives_some, finds_some, function_some, along_some, then_given, finds_given}
 use Rattle.glk_package.specs.declared.refusal.PackageBad.{PackageBad}
-use Rattle.glk_package.specs.ObjectRules.{ObjectRules, uniform_rules, rules_after}
+use Rattle.glk_package.specs.ObjectRules.{ObjectRules, rules_after}
 use Rattle.glk_package.specs.ObjectEntry.{ObjectEntry}
 use Rattle.glk_package.specs.Package.{PackageFile}
 use Rattle.glk_package.proofs.Some.{some_package}
 use Rattle.glk_package.specs.PackageRefusal.{refusal_of}
-use Rattle.glk_arena.specs.World.{Package, paths_of, object_entries, file_bytes, package_limit}
-use Rattle.glk_arena.specs.Waves.{LoadInputs, Takes, ReadsOne, Reads, Formats, all_whole, broken, whole, broken_later, Wave, Loads, refused, last, crowded, further, IsLoad, first_wave, next_wave, listed_count, file_of, main_package, runtime_package, fingerprint_refusal, missing_refusal}
+use Rattle.glk_arena.specs.World.{Package, paths_of, package_of_file, rules_so_far, file_bytes, package_limit}
+use Rattle.glk_arena.specs.Waves.{LoadInputs, Takes, ReadsOne, Reads, Formats, all_whole, broken, whole, broken_later, Wave, Loads, refused, last, crowded, further, IsLoad, first_wave, next_wave, listed_count, file_of, runtime_package, fingerprint_refusal, missing_refusal}
 use Rattle.glk_arena.proofs.FormatLemmas.{formats_paths}
 
 reads_some : (inputs : LoadInputs) (files : Contents) (left : ℕ) (paths : List (List ℕ)) → IsSomeAt (Reads inputs files left) paths
@@ -43,7 +42,7 @@ formats_some inputs wanted (p ∷ ps) (f ∷ fs) same = by_file (λ w. formats_s
     by_rest : (objects : List ObjectEntry) → PackageFile wanted f (Ok objects) → (answer : Result (List Package) Cause) × Formats inputs (rules_after wanted objects) ps fs answer
         → (answer : Result (List Package) Cause) × Formats inputs wanted (p ∷ ps) (f ∷ fs) answer
     by_rest objects is (Err refusal, later) = (Err refusal, broken_later wanted p ps f fs objects refusal is later)
-    by_rest objects is (Ok packages, later) = (Ok (record { path = p; file = f; objects = objects } ∷ packages), whole wanted p ps f fs objects packages is later)
+    by_rest objects is (Ok packages, later) = (Ok (package_of_file p f objects ∷ packages), whole wanted p ps f fs objects packages is later)
 
     by_file : ((w : ObjectRules) → (answer : Result (List Package) Cause) × Formats inputs w ps fs answer) → (answer : Result (List ObjectEntry) PackageBad) × PackageFile wanted f answer
         → (answer : Result (List Package) Cause) × Formats inputs wanted (p ∷ ps) (f ∷ fs) answer
@@ -58,7 +57,7 @@ found_or_clear (Some c) = inl (c, refl)
 wave_some : (inputs : LoadInputs) (files : Contents) (earlier : List Package) (paths : List (List ℕ)) → IsSomeAt (Wave inputs files earlier) paths
 wave_some inputs files earlier paths =
     then_some paths (reads_some inputs files (file_limit - file_bytes earlier) paths)
-    (λ read h. then_some read (formats_some inputs (rules_after uniform_rules (object_entries earlier)) paths read (reads_long (file_limit - file_bytes earlier) paths read h))
+    (λ read h. then_some read (formats_some inputs (rules_so_far earlier) paths read (reads_long (file_limit - file_bytes earlier) paths read h))
     (λ wave k. then_some wave (finds_some wave (found_or_clear (fingerprint_refusal earlier wave)))
     (λ same m. finds_some same (found_or_clear (missing_refusal inputs.listed earlier same)))))
 
@@ -69,7 +68,7 @@ wave_long inputs files earlier paths wave w =
     let made = then_given read.0 wave read.2 in
     let compared = then_given made.0 wave made.2 in
     let same : made.0 ≡ wave = finds_given made.0 compared.0 compared.1 ∙ finds_given compared.0 wave compared.2 in
-    let own : paths_of made.0 ≡ paths = formats_paths inputs (rules_after uniform_rules (object_entries earlier)) paths read.0 made.0 made.1 in
+    let own : paths_of made.0 ≡ paths = formats_paths inputs (rules_so_far earlier) paths read.0 made.0 made.1 in
     ap length (sym same) ∙ sym (length-map made.0 (λ p. p.path)) ∙ ap length own
 
 -- `left` more packages may be loaded

@@ -1,5 +1,5 @@
 -- The tables over loaded packages: what they say, and how they grow.
-use Rattle.std.proofs.Common.{◌≡◌, ◌<◌, ◌≤◌, ◌+◌, ◌-◌, ℕ, List, [], ◌∷◌, ◌++◌, length, take, get_or, replicate, inl, inr, refl, sym, ap, ◌∙◌, arith, below_more, length-append}
+use Rattle.std.proofs.Common.{◌≡◌, ◌<◌, ◌≤◌, ◌+◌, ◌-◌, ℕ, List, [], ◌∷◌, ◌++◌, length, take, get_or, replicate, inl, inr, refl, sym, subst, ap, None, ◌∙◌, arith, below_more, length-append}
 use Rattle.std.specs.List.{sum_by}
 use Rattle.std.proofs.lemmas.Bool.{cases_lt}
 use Rattle.std.proofs.lemmas.List.{get_or_read, get_or_append_left, get_or-append_right, get_or-replicate, get_or_push, take_all, length-replicate, length_push}
@@ -9,10 +9,43 @@ use Rattle.glk_base.specs.Groups.{group_of, group_start}
 use Rattle.glk_arena.specs.World.{Package, objects_of, package_of_object, package_of_row, first_object, file_bytes, symbol_count, package_symbols, package_limit}
 use Rattle.glk_base.specs.Limits.{file_limit}
 use Rattle.glk_arena.specs.Stored.{IsWhole}
-use Rattle.glk_arena.specs.Tables.{AreTables, object_number}
+use Rattle.glk_arena.specs.Tables.{AreTables, IsIndexed, object_number}
+use Rattle.glk_arena.specs.declared.packages.PackageTable.{PackageTable}
+use Rattle.glk_arena.specs.PackageViews.{IsTableOf}
 use Rattle.glk_base.proofs.Groups.{group_old, group_new, group_within, group_is, start_more, start_last, start_next, start_all, start_none}
 use Rattle.glk_arena.specs.ImportRefs.{no_package}
 use Rattle.glk_arena.proofs.WorldLemmas.{objects_total, first_is, owner_is, symbols_are, few_objects, few_symbols}
+
+-- without packages
+none_indexed : (table : PackageTable) → IsTableOf [] table → IsIndexed [] [] [] [] 0 0 None None table
+unfolding objects_of
+none_indexed table paths = record {
+  tables = record {
+    whole = All-nil IsWhole;
+    few = omega arith;
+    small = omega arith;
+    owned = refl;
+    begun = refl;
+    counted = refl;
+    owner = λ n l. absurd (omega (arith, l));
+    first = λ p l. absurd (omega (arith, l));
+    row = λ p l. absurd (omega (arith, l));
+    all_bytes = refl;
+    all_symbols = refl;
+  };
+  header_is = refl;
+  width_is = refl;
+  paths = paths;
+}
+
+pub indexed_none : (packages : List Package) (owners firsts rows : List ℕ) (table : PackageTable) → packages ≡ [] → owners ≡ [] → firsts ≡ [] → rows ≡ [] → IsTableOf [] table
+    → IsIndexed packages owners firsts rows 0 0 None None table
+indexed_none packages owners firsts rows table p o f r paths =
+    let I : List Package → List ℕ → List ℕ → List ℕ → Type 0 = λ w a b c. IsIndexed w a b c 0 0 None None table in
+    subst (λ (w : List Package). I w owners firsts rows) (sym p)
+    (subst (λ (a : List ℕ). I [] a firsts rows) (sym o)
+    (subst (λ (b : List ℕ). I [] [] b rows) (sym f)
+    (subst (λ (c : List ℕ). I [] [] [] c) (sym r) (none_indexed table paths))))
 
 module _ (world : List Package) (owners firsts rows : List ℕ) (bytes symbols : ℕ) (t : AreTables world owners firsts rows bytes symbols) where
   -- what an entry says

@@ -23,13 +23,12 @@ use Rattle.glk_cause.specs.Chain.{stops, goes_on, finds, clear}
 use Rattle.glk_cause.specs.Reading.{Refuses}
 use Rattle.glk_cause.proofs.ReadingLaws.{always, always_known, reading_stopped}
 use Rattle.glk_obj.specs.Blocks.{count, autolib}
-use Rattle.glk_package.specs.ObjectEntry.{ObjectEntry}
-use Rattle.glk_package.specs.ObjectRules.{ObjectRules, uniform_rules, rules_after}
+use Rattle.glk_package.specs.ObjectRules.{ObjectRules, rules_after}
 use Rattle.glk_package.specs.declared.refusal.PackageBad.{PackageBad}
 use Rattle.glk_package.specs.declared.refusal.PackageBad.TheVariants as bad
 use Rattle.glk_package.specs.PackageRefusal.{refusal_of, IsRefusedFor}
 use Rattle.glk_arena.specs.declared.imports.ImportRef.{ImportRef}
-use Rattle.glk_arena.specs.World.{Package, object_entries, paths_of, file_bytes, package_limit}
+use Rattle.glk_arena.specs.World.{Package, rules_so_far, paths_of, file_bytes, package_limit}
 use Rattle.glk_base.specs.Limits.{file_limit}
 use Rattle.glk_arena.specs.Imports.{Import, imports_of, package_imports, object_imports, import_at, is_among, unsafe_package, fingerprint_in, is_compared, is_unequal, first_unequal}
 use Rattle.glk_arena.specs.ImportRefs.{AreImportsOf, IsImportRef}
@@ -91,7 +90,7 @@ pub format_refused : (inputs : LoadInputs) (old new : FileState) (earlier : List
     → RefusesWave old new inputs earlier (drop (length earlier) names) f
 format_refused inputs old new earlier names files (fault.Bad c) same all r is =
     let paths : List (List ℕ) = drop (length earlier) names in
-    let of = of_one_file inputs (rules_after uniform_rules (object_entries earlier)) paths files c is in
+    let of = of_one_file inputs (rules_so_far earlier) paths files c is in
     let sort : sort_of c ≡ of_package (file_of inputs (get_or paths of.index [])) = ap sort_of of.is ∙ sort_of_bad _ of.bad in
     let has : HasFile inputs (get_or paths of.index []) = All-drop (HasFile inputs) (length earlier) names all of.index [] of.inside in
     let S : Sort → Type 0 = λ s. IsOfPackages inputs s × Refuses old new (WaveTo inputs old.contents earlier paths (Err c)) s in
@@ -134,12 +133,12 @@ imports_cons : (p : Package) (world : List Package) → imports_of (p ∷ world)
 unfolding imports_of
 imports_cons p world = flat_map-cons package_imports p world
 
-importers_of : (p : Package) (paths : List (List ℕ)) (objects : List ObjectEntry) → All (λ i. is_among (p.path ∷ paths) i.importer ≡ true) (flat_map (λ o. object_imports p.path o.goobj) objects)
+importers_of : (p : Package) (paths : List (List ℕ)) (objects : List (List ℕ)) → All (λ i. is_among (p.path ∷ paths) i.importer ≡ true) (flat_map (object_imports p.path) objects)
 importers_of p paths [] = All-nil (λ i. is_among (p.path ∷ paths) i.importer ≡ true)
 importers_of p paths (o ∷ objects) =
     let P : Import → Type 0 = λ i. is_among (p.path ∷ paths) i.importer ≡ true in
-    subst (λ (is : List Import). All P is) (sym (flat_map-cons (λ q. object_imports p.path q.goobj) o objects))
-    (All-append P (object_imports p.path o.goobj) (flat_map (λ q. object_imports p.path q.goobj) objects) (one o.goobj) (importers_of p paths objects))
+    subst (λ (is : List Import). All P is) (sym (flat_map-cons (object_imports p.path) o objects))
+    (All-append P (object_imports p.path o) (flat_map (object_imports p.path) objects) (one o) (importers_of p paths objects))
   where
     one : (object : List ℕ) → All (λ i. is_among (p.path ∷ paths) i.importer ≡ true) (object_imports p.path object)
     one object = object_importers p.path paths object
@@ -337,7 +336,7 @@ wave_read inputs contents names list now refs compared s r = record {
 }
   where
     wave_paths : paths_of r.adds.wave ≡ drop (length list) names
-    wave_paths = formats_paths inputs (rules_after uniform_rules (object_entries list)) (drop (length list) names) r.files r.adds.wave r.adds.formats
+    wave_paths = formats_paths inputs (rules_so_far list) (drop (length list) names) r.files r.adds.wave r.adds.formats
 
     paths : paths_of now ≡ names
     paths =

@@ -1,35 +1,38 @@
 -- Packages in load order: their objects and rows, counted through.
-use Rattle.std.proofs.Common.{◌≡◌, ◌<◌, ◌≤◌, ◌+◌, ◌-◌, ℕ, zero, suc, List, [], ◌∷◌, ◌++◌, length, take, drop, get_or, map, All, refl, sym, ap, subst, ◌∙◌, arith, drop-cons, inl, inr, None}
+use Rattle.std.proofs.Common.{◌≡◌, ◌<◌, ◌≤◌, ◌+◌, ◌-◌, ℕ, zero, suc, List, [], ◌∷◌, ◌++◌, length, take, drop, get_or, All, refl, sym, ap, subst, ◌∙◌, arith, drop-cons, inl, inr}
 use Rattle.std.specs.List.{sum_by, flat_map}
 use Rattle.std.proofs.lemmas.Bool.{cases_lt}
-use Rattle.std.proofs.lemmas.List.{map-append, length-map, nil_from_length}
+use Rattle.std.proofs.lemmas.List.{append-nil}
+use Rattle.std.proofs.lemmas.Grind.{flat_map-append}
 use Rattle.std.proofs.lemmas.List.Sums.{sum_by-cons, sum_by-append}
 use Rattle.std.proofs.lemmas.List.Concat.{length-flat_map, flat_map-cons, get_or-flat_map}
-use Rattle.std.proofs.lemmas.List.Elements.{All-nil, All-head, All-tail, All-append, All-map}
+use Rattle.std.proofs.lemmas.List.Elements.{All-nil, All-head, All-tail, All-append}
 use Rattle.glk_obj.specs.Object.{IsObject}
 use Rattle.glk_obj.specs.Records.{symbols}
-use Rattle.glk_package.specs.ObjectEntry.{ObjectEntry}
-use Rattle.glk_package.specs.HeaderRule.{uniform, exactly, header_after}
 use Rattle.glk_base.specs.Groups.{group_of, group_start}
-use Rattle.glk_arena.specs.World.{Package, object_entries, objects_of, package_of_object, first_object, object_count, file_bytes, symbol_count, package_symbols}
+use Rattle.glk_arena.specs.World.{Package, objects_of, package_of_object, first_object, object_count, file_bytes, symbol_count, package_symbols}
 use Rattle.glk_arena.specs.Stored.{IsWhole}
-use Rattle.glk_arena.specs.ImportRefs.{no_package, data_of}
+use Rattle.glk_arena.specs.ImportRefs.{no_package}
 use Rattle.glk_arena.specs.Tables.{object_number}
 use Rattle.glk_base.proofs.Groups.{group_holds, lt_true, lt_false}
 use Rattle.glk_arena.proofs.StoredLemmas.{package_objects, package_rows}
 
-pub objects_are : (world : List Package) → objects_of world ≡ flat_map data_of world
+pub objects_are : (world : List Package) → objects_of world ≡ flat_map (λ p. p.objects) world
 unfolding objects_of
-objects_are [] = refl
-objects_are (p ∷ world) =
-    ap (λ l. map (λ o. o.goobj) l) (flat_map-cons (λ q. q.objects) p world)
-    ∙ map-append (λ o. o.goobj) p.objects (flat_map (λ q. q.objects) world)
-    ∙ ap (λ l. data_of p ++ l) (objects_are world)
-    ∙ sym (flat_map-cons data_of p world)
+objects_are world = refl
+
+-- the objects of a package before those of the later ones, and after those of the earlier ones
+pub objects_cons : (p : Package) (later : List Package) → objects_of (p ∷ later) ≡ p.objects ++ objects_of later
+unfolding objects_of
+objects_cons p later = flat_map-cons (λ q. q.objects) p later
+
+pub objects_push : (world : List Package) (p : Package) → objects_of (world ++ p ∷ []) ≡ objects_of world ++ p.objects
+unfolding objects_of
+objects_push world p = flat_map-append (λ q. q.objects) world (p ∷ []) ∙ ap (λ os. objects_of world ++ os) (flat_map-cons (λ q. q.objects) p [] ∙ append-nil p.objects)
 
 pub objects_total : (world : List Package) → length (objects_of world) ≡ sum_by object_number world
 unfolding objects_of
-objects_total world = length-map (flat_map (λ q. q.objects) world) (λ o. o.goobj) ∙ length-flat_map (λ q. q.objects) world
+objects_total world = length-flat_map (λ q. q.objects) world
 
 pub first_is : (world : List Package) (p : ℕ) → first_object world p ≡ group_start object_number world p
 unfolding first_object group_start
@@ -56,7 +59,7 @@ count_is world p l =
 -- object n is one of its package's
 pub object_is : (world : List Package) (n p first : ℕ) → p < length world → p ≡ package_of_object world n → first ≡ first_object world p → n < length (objects_of world)
     → (first ≤ n) × (n - first < length (get_or world p no_package).objects)
-    × (get_or (data_of (get_or world p no_package)) (n - first) [] ≡ get_or (objects_of world) n [])
+    × (get_or (get_or world p no_package).objects (n - first) [] ≡ get_or (objects_of world) n [])
 unfolding first_object
 object_is world n p first l own begin inside =
     let total = objects_total world in
@@ -68,11 +71,10 @@ object_is world n p first l own begin inside =
     let high : n < first + length (get_or world p no_package).objects =
     let P : ℕ → Type 0 = λ k. n < group_start object_number world k + length (get_or world k no_package).objects in
     let a : n < group_start object_number world p + length (get_or world p no_package).objects = subst P (sym group) holds.1 in omega (arith, a, start) in
-    let count : length (data_of (get_or world p no_package)) ≡ length (get_or world p no_package).objects = length-map (get_or world p no_package).objects (λ o. o.goobj) in
-    let before : length (flat_map data_of (take p world)) ≡ first = ap length (sym (objects_are (take p world))) ∙ sym begin in
-    let place : length (flat_map data_of (take p world)) + (n - first) ≡ n = omega (arith, before, low) in
-    let found = get_or-flat_map data_of world p (n - first) no_package [] l (omega (arith, low, high, count)) in
-    (low, omega (arith, low, high), sym found ∙ ap (λ k. get_or (flat_map data_of world) k []) place ∙ ap (λ w. get_or w n []) (sym (objects_are world)))
+    let before : length (flat_map (λ q. q.objects) (take p world)) ≡ first = ap length (sym (objects_are (take p world))) ∙ sym begin in
+    let place : length (flat_map (λ q. q.objects) (take p world)) + (n - first) ≡ n = omega (arith, before, low) in
+    let found = get_or-flat_map (λ q. q.objects) world p (n - first) no_package [] l (omega (arith, low, high)) in
+    (low, omega (arith, low, high), sym found ∙ ap (λ k. get_or (flat_map (λ q. q.objects) world) k []) place ∙ ap (λ w. get_or w n []) (sym (objects_are world)))
 
 -- all objects are objects
 pub all_objects : (world : List Package) → All IsWhole world → All IsObject (objects_of world)
@@ -80,11 +82,8 @@ unfolding objects_of
 all_objects [] all = All-nil IsObject
 all_objects (p ∷ world) all =
     let P : List (List ℕ) → Type 0 = λ w. All IsObject w in
-    let split : objects_of (p ∷ world) ≡ data_of p ++ objects_of world =
-    objects_are (p ∷ world) ∙ flat_map-cons data_of p world ∙ ap (λ l. data_of p ++ l) (sym (objects_are world)) in
-    subst P (sym split)
-    (All-append IsObject (data_of p) (objects_of world) (All-map IsObject (λ o. o.goobj) p.objects (All-head IsWhole p world all).objects)
-    (all_objects world (All-tail IsWhole p world all)))
+    subst P (sym (objects_cons p world))
+    (All-append IsObject p.objects (objects_of world) (All-head IsWhole p world all).objects (all_objects world (All-tail IsWhole p world all)))
 
 -- they and their symbols are no more than the bytes of the files
 pub few_objects : (world : List Package) → All IsWhole world → sum_by object_number world ≤ file_bytes world
@@ -111,61 +110,12 @@ symbols_of_none : symbol_count [] ≡ sum_by package_symbols []
 unfolding objects_of
 symbols_of_none = refl
 
-data_symbols : (objects : List ObjectEntry) → sum_by symbols (map (λ o. o.goobj) objects) ≡ sum_by (λ o. symbols o.goobj) objects
-data_symbols [] = refl
-data_symbols (o ∷ objects) =
-    sum_by-cons symbols o.goobj (map (λ q. q.goobj) objects) ∙ ap (λ n. symbols o.goobj + n) (data_symbols objects) ∙ sym (sum_by-cons (λ q. symbols q.goobj) o objects)
-
-own_symbols : (p : Package) → package_symbols p ≡ sum_by (λ o. symbols o.goobj) p.objects
+own_symbols : (p : Package) → package_symbols p ≡ sum_by symbols p.objects
 unfolding package_symbols
 own_symbols p = refl
 
 pub symbols_are : (world : List Package) → symbol_count world ≡ sum_by package_symbols world
 symbols_are [] = symbols_of_none
 symbols_are (p ∷ world) =
-    let split : objects_of (p ∷ world) ≡ data_of p ++ objects_of world =
-    objects_are (p ∷ world) ∙ flat_map-cons data_of p world ∙ ap (λ l. data_of p ++ l) (sym (objects_are world)) in
-    ap (λ w. sum_by symbols w) split ∙ sum_by-append symbols (data_of p) (objects_of world)
-    ∙ omega (arith, data_symbols p.objects, own_symbols p, symbols_are world, sum_by-cons package_symbols p world)
-
--- an object that is nowhere
-abbrev pub no_object : ObjectEntry
-no_object = record { member = 0; name = None; line = []; goobj = []; at = 0 }
-
--- without objects the line is open
-pub no_line_is : (world : List Package) → length (objects_of world) ≡ 0 → header_after uniform (object_entries world) ≡ uniform
-unfolding objects_of
-no_line_is world e = ap (header_after uniform) (nil_from_length (object_entries world) (sym (length-map (object_entries world) (λ o. o.goobj)) ∙ e))
-
--- else it is that of the first object
-pub record IsFirstLine (world : List Package) (k : ℕ) : Type 0 where
-  pub there : k < length world
-  pub some : 0 < length (get_or world k no_package).objects
-  pub line_is : header_after uniform (object_entries world) ≡ exactly (get_or (get_or world k no_package).objects 0 no_object).line
-
--- the package of object 0
-package_behind : (path file : List ℕ) (later : List Package) → package_of_object (record { path = path; file = file; objects = [] } ∷ later) 0 ≡ suc (package_of_object later 0)
-unfolding package_of_object
-package_behind path file later = refl
-
-package_here : (path file : List ℕ) (o : ObjectEntry) (os : List ObjectEntry) (later : List Package) → package_of_object (record { path = path; file = file; objects = o ∷ os } ∷ later) 0 ≡ 0
-unfolding package_of_object
-package_here path file o os later = rw (lt_true 0 (length (o ∷ os)) (omega arith)) refl
-
-by_objects : (path file : List ℕ) (objects : List ObjectEntry) (later : List Package) (k : ℕ) → ((j : ℕ) → j ≡ package_of_object later 0 → 0 < length (objects_of later) → IsFirstLine later j)
-    → k ≡ package_of_object (record { path = path; file = file; objects = objects } ∷ later) 0 → 0 < length (objects_of (record { path = path; file = file; objects = objects } ∷ later))
-    → IsFirstLine (record { path = path; file = file; objects = objects } ∷ later) k
-by_objects path file [] later k ih e l =
-    let none : Package = record { path = path; file = file; objects = [] } in
-    let total = objects_total (none ∷ later) in
-    let rest = ih (package_of_object later 0) refl (omega (arith, l, total, sum_by-cons object_number none later, objects_total later)) in
-    let found : IsFirstLine (none ∷ later) (suc (package_of_object later 0)) = record { there = omega (arith, rest.there); some = rest.some; line_is = rest.line_is } in
-    subst (λ (j : ℕ). IsFirstLine (none ∷ later) j) (sym (e ∙ package_behind path file later)) found
-by_objects path file (o ∷ os) later k ih e l =
-    let here : Package = record { path = path; file = file; objects = o ∷ os } in
-    let found : IsFirstLine (here ∷ later) 0 = record { there = omega arith; some = omega arith; line_is = refl } in
-    subst (λ (j : ℕ). IsFirstLine (here ∷ later) j) (sym (e ∙ package_here path file o os later)) found
-
-pub first_line_is : (world : List Package) (k : ℕ) → k ≡ package_of_object world 0 → 0 < length (objects_of world) → IsFirstLine world k
-first_line_is [] k e l = absurd (omega (arith, l, objects_total []))
-first_line_is (p ∷ later) k e l = by_objects p.path p.file p.objects later k (λ j f m. first_line_is later j f m) e l
+    ap (λ w. sum_by symbols w) (objects_cons p world) ∙ sum_by-append symbols p.objects (objects_of world)
+    ∙ omega (arith, own_symbols p, symbols_are world, sum_by-cons package_symbols p world)

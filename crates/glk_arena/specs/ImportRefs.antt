@@ -1,5 +1,5 @@
 -- References to imports: the package, the object in it, and the entry of its block Autolib.
-use Rattle.std.specs.Prelude.{◌≡◌, ◌<◌, ℕ, List, [], length, get_or, map, All}
+use Rattle.std.specs.Prelude.{◌≡◌, ◌<◌, ℕ, List, [], length, get_or, map, None, All}
 use Rattle.std.specs.List.{range_with_len}
 use Rattle.glk_obj.specs.Blocks.{count, autolib}
 use Rattle.glk_arena.specs.declared.imports.ImportRef.{ImportRef}
@@ -9,15 +9,11 @@ use Rattle.glk_arena.specs.Imports.{Import, import_at, imports_of}
 
 -- a package that is nowhere
 abbrev pub no_package : Package
-no_package = record { path = []; file = []; objects = [] }
-
--- the data of a package's objects
-abbrev pub data_of : Package → List (List ℕ)
-data_of p = map (λ o. o.goobj) p.objects
+no_package = record { path = []; file = []; header = None; objects = [] }
 
 -- the object of a reference
 abbrev pub object_at : List Package → ImportRef → List ℕ
-object_at world i = get_or (data_of (get_or world i.owner no_package)) i.object []
+object_at world i = get_or (get_or world i.owner no_package).objects i.object []
 
 -- the import of a reference
 abbrev pub import_by : List Package → ImportRef → Import

@@ -23,7 +23,7 @@ object_imports path object = map (import_at path object) (range_with_len 0 (coun
 
 -- the imports of a package, object by object
 unfoldable pub package_imports : Package → List Import
-package_imports p = flat_map (λ o. object_imports p.path o.goobj) p.objects
+package_imports p = flat_map (object_imports p.path) p.objects
 
 -- the imports of packages, one after the other
 unfoldable pub imports_of : List Package → List Import
@@ -46,7 +46,7 @@ is_set print = not (bytes_eq print no_fingerprint)
 
 -- a package's fingerprint: the first among its objects that is not zero, else zero
 unfoldable pub package_fingerprint : Package → List ℕ
-package_fingerprint p = unwrap_or (find is_set (map (λ o. fingerprint o.goobj) p.objects)) no_fingerprint
+package_fingerprint p = unwrap_or (find is_set (map fingerprint p.objects)) no_fingerprint
 
 -- the fingerprint of the first of these packages that has this path; zero where none has
 unfoldable pub fingerprint_in : List Package → List ℕ → List ℕ

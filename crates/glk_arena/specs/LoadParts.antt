@@ -11,14 +11,15 @@ use Rattle.glk_cause.specs.declared.cause.Cause.TheVariants as cause
 use Rattle.glk_cause.specs.Reading.{AnswersByReading}
 use Rattle.glk_package.specs.declared.refusal.PackageBad.{PackageBad}
 use Rattle.glk_package.specs.ObjectRules.{ObjectRules}
+use Rattle.glk_package.specs.ObjectEntry.{ObjectEntry}
 use Rattle.glk_package.specs.Package.{PackageFile}
 use Rattle.glk_arena.specs.declared.config.Config.{Config}
 use Rattle.glk_arena.specs.declared.loader.Loader.{Loader}
-use Rattle.glk_arena.specs.declared.stored.StoredObject.{StoredObject}
+use Rattle.glk_arena.specs.declared.stored.StoredObjects.{StoredObjects}
 use Rattle.glk_arena.specs.ConfigViews.{file_in}
-use Rattle.glk_arena.specs.Stored.{stored_entry}
+use Rattle.glk_arena.specs.Stored.{Stores}
 use Rattle.glk_package.specs.PackageRefusal.{refusal_of, IsRefusedFor}
-use Rattle.glk_arena.specs.World.{Package, file_bytes}
+use Rattle.glk_arena.specs.World.{Package, package_of_file, file_bytes}
 use Rattle.glk_arena.specs.Imports.{Import, imports_of, fingerprint_in, is_compared, is_unequal}
 use Rattle.glk_arena.specs.Waves.{LoadInputs, Reads, FormatsAfter, first_uses, Wave, IsLoad, IsPackagePath, IsOfPackages, is_missing, file_of}
 
@@ -41,9 +42,9 @@ ReadsPaths old new inputs limit paths view result =
 
 -- a file of a package is objects, which make this package
 pub record IsPackageIn (wanted : ObjectRules) (path file : List ℕ) (p : Package) : Type 0 where
-  pub holds : PackageFile wanted file (Ok p.objects)
-  pub path_is : p.path ≡ path
-  pub file_is : p.file ≡ file
+  pub objects : List ObjectEntry
+  pub holds : PackageFile wanted file (Ok objects)
+  pub is : p ≡ package_of_file path file objects
 
 -- a file at this path is refused so
 abbrev pub IsFormatRefusal : ObjectRules → List ℕ → List ℕ → Cause → Type 0
@@ -95,9 +96,11 @@ missing_import world listed names from = find (is_missing listed names) (drop fr
 abbrev pub next_imports : List (List ℕ) → List Package → ℕ → List (List ℕ)
 next_imports names world from = first_uses names (drop from (map (λ i. i.imported) (imports_of world)))
 
--- what is stored of the objects of a file, which have in common what these rules ask
-abbrev pub HoldsStored : ObjectRules → List ℕ → List StoredObject → Type 0
-HoldsStored rules file kept = PackageFile rules file (Ok (map (stored_entry file) kept))
+-- what is stored is that of the objects of a file, which have in common what these rules ask
+pub record HoldsStored (rules : ObjectRules) (file : List ℕ) (stored : StoredObjects) : Type 0 where
+  pub objects : List ObjectEntry
+  pub holds : PackageFile rules file (Ok objects)
+  pub stores : Stores file objects stored
 
 -- the packages of a wave, whose names are those after the earlier packages, are after these
 abbrev pub AppendsWave : LoadInputs → List Package → List (List ℕ) → List (List ℕ) → List Package → Type 0

@@ -1,5 +1,5 @@
 -- What contracts see of a table of packages.
-use Rattle.std.specs.Prelude.{◌≡◌, ℕ, List, Option, Some, None, cond}
+use Rattle.std.specs.Prelude.{◌≡◌, ◌++◌, ℕ, List, [], ◌∷◌, length, Option, Some, None, cond}
 use Rattle.std.specs.Option.{option_or}
 use Rattle.std.specs.Str.{bytes_eq}
 use Rattle.indexmap.specs.IndexMap.{get_by}
@@ -19,3 +19,8 @@ pub record Adds (spelling : List ℕ) (place : ℕ) (before now : Spellings) : T
 pub record IsTableOf (paths : List (List ℕ)) (table : PackageTable) : Type 0 where
   pub plain : (name : List ℕ) → place_in table.plain name ≡ place_of_path paths name
   pub escaped : (name : List ℕ) → place_in table.escaped name ≡ place_of_escaped paths name
+
+-- a package more, with this path, at this place
+abbrev pub AddsPath : List ℕ → ℕ → PackageTable → PackageTable → Type 0
+AddsPath path place before now =
+    (paths : List (List ℕ)) → length paths ≡ place → IsTableOf paths before → IsTableOf (paths ++ path ∷ []) now

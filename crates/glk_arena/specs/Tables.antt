@@ -3,9 +3,11 @@ use Rattle.std.specs.Prelude.{◌≡◌, ◌<◌, ◌≤◌, ℕ, List, Option, 
 use Rattle.std.specs.List.{sum_by}
 use Rattle.glk_base.specs.Groups.{group_of, group_start}
 use Rattle.glk_package.specs.WidthRule.{first_width}
-use Rattle.glk_arena.specs.World.{Package, object_entries, package_symbols, file_bytes, package_limit}
+use Rattle.glk_arena.specs.World.{Package, paths_of, objects_of, first_header, package_symbols, file_bytes, package_limit}
 use Rattle.glk_base.specs.Limits.{file_limit}
 use Rattle.glk_arena.specs.Stored.{IsWhole}
+use Rattle.glk_arena.specs.declared.packages.PackageTable.{PackageTable}
+use Rattle.glk_arena.specs.PackageViews.{IsTableOf}
 
 abbrev pub object_number : Package → ℕ
 object_number p = length p.objects
@@ -24,7 +26,10 @@ pub record AreTables (world : List Package) (owners firsts rows : List ℕ) (byt
   pub all_bytes : bytes ≡ file_bytes world
   pub all_symbols : symbols ≡ sum_by package_symbols world
 
--- the same with the length of the long hashes of the first object that has any
-pub record IsIndexed (world : List Package) (owners firsts rows : List ℕ) (bytes symbols : ℕ) (width : Option ℕ) : Type 0 where
+-- all of it, with the packages by their paths, and what further objects have to have in common with those that are loaded: the
+-- first header line, and the length of the first long hashes
+pub record IsIndexed (world : List Package) (owners firsts rows : List ℕ) (bytes symbols : ℕ) (header : Option (List ℕ)) (width : Option ℕ) (table : PackageTable) : Type 0 where
   pub tables : AreTables world owners firsts rows bytes symbols
-  pub width_is : width ≡ first_width (object_entries world)
+  pub header_is : header ≡ first_header world
+  pub width_is : width ≡ first_width (objects_of world)
+  pub paths : IsTableOf (paths_of world) table

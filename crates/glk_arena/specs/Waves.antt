@@ -12,10 +12,10 @@ use Rattle.glk_cause.specs.Reading.{IsWhole}
 use Rattle.glk_cause.specs.Sorts.{Sort, by_reads, of_file, of_package, of_link}
 use Rattle.glk_package.specs.ObjectEntry.{ObjectEntry}
 use Rattle.glk_package.specs.Package.{PackageFile}
-use Rattle.glk_package.specs.ObjectRules.{ObjectRules, uniform_rules, rules_after}
+use Rattle.glk_package.specs.ObjectRules.{ObjectRules, rules_after}
 use Rattle.glk_package.specs.declared.refusal.PackageBad.{PackageBad}
 use Rattle.glk_package.specs.PackageRefusal.{refusal_of}
-use Rattle.glk_arena.specs.World.{Package, paths_of, object_entries, file_bytes, package_limit}
+use Rattle.glk_arena.specs.World.{Package, paths_of, package_of_file, rules_so_far, file_bytes, package_limit}
 use Rattle.glk_base.specs.Limits.{file_limit}
 use Rattle.glk_arena.specs.Imports.{Import, imports_of, is_among, unsafe_package, fingerprint_in, first_unequal}
 
@@ -56,7 +56,7 @@ pub data Formats (inputs : LoadInputs) : ObjectRules → List (List ℕ) → Lis
       → Formats inputs wanted (path ∷ paths) (file ∷ files) (Err (refusal_of (file_of inputs path) fault))
   whole : (wanted : ObjectRules) (path : List ℕ) (paths : List (List ℕ)) (file : List ℕ) (files : List (List ℕ)) (objects : List ObjectEntry) (later : List Package) → PackageFile wanted file (Ok objects)
       → Formats inputs (rules_after wanted objects) paths files (Ok later)
-      → Formats inputs wanted (path ∷ paths) (file ∷ files) (Ok (record { path = path; file = file; objects = objects } ∷ later))
+      → Formats inputs wanted (path ∷ paths) (file ∷ files) (Ok (package_of_file path file objects ∷ later))
   broken_later : (wanted : ObjectRules) (path : List ℕ) (paths : List (List ℕ)) (file : List ℕ) (files : List (List ℕ)) (objects : List ObjectEntry) (refusal : Cause) → PackageFile wanted file (Ok objects)
       → Formats inputs (rules_after wanted objects) paths files (Err refusal)
       → Formats inputs wanted (path ∷ paths) (file ∷ files) (Err refusal)
@@ -76,7 +76,7 @@ missing_refusal listed earlier wave =
 
 -- the formats of the files of a wave after earlier packages
 abbrev pub FormatsAfter : LoadInputs → List Package → List (List ℕ) → List (List ℕ) → Result (List Package) Cause → Type 0
-FormatsAfter inputs earlier paths = Formats inputs (rules_after uniform_rules (object_entries earlier)) paths
+FormatsAfter inputs earlier paths = Formats inputs (rules_so_far earlier) paths
 
 -- A wave after earlier packages: all of it is loaded, or this is its first refusal, part by part.
 abbrev pub Wave : LoadInputs → Contents → List Package → List (List ℕ) → Result (List Package) Cause → Type 0

@@ -9,7 +9,7 @@ ghost use Rattle.glk_arena.specs.LoadParts.{is_refused, unequal_import, missing_
 ghost use Rattle.glk_arena.specs.ImportRefs.{AreImportsOf, IsImportRef, import_by, import_view, refs_of_object};
 
 use crate::config::Config;
-use crate::list::PackageList;
+use crate::loaded::Loaded;
 use crate::paths::PackagePaths;
 use glk_base::OutOfMemory;
 use glk_obj::Block;
@@ -32,7 +32,7 @@ pub(crate) struct ImportEntry<'a> {
 }
 
 // The import of a reference.
-pub(crate) fn import_at(list: &PackageList, place: ImportRef) -> ImportEntry<'_>
+pub(crate) fn import_at(list: &Loaded, place: ImportRef) -> ImportEntry<'_>
     requires { IsImportRef list.now place }
     ensures { import_view result ≡ import_by list.now place }
 {
@@ -47,7 +47,7 @@ pub(crate) fn import_at(list: &PackageList, place: ImportRef) -> ImportEntry<'_>
 }
 
 // The fingerprint of the package with this path, of loaded packages with these paths.
-pub(crate) fn fingerprint_of(list: &PackageList, names: &PackagePaths, path: &[u8]) -> [u8; 8]
+pub(crate) fn fingerprint_of(list: &Loaded, names: &PackagePaths, path: &[u8]) -> [u8; 8]
     requires { paths_of list.now ≡ names.now }
     ensures { result ≡ fingerprint_in list.now path.now }
 {
@@ -80,7 +80,7 @@ fn is_set(print: [u8; 8]) -> bool
 
 // Whether an import wants another fingerprint than its package has, and neither is zero.
 #[tactic(auto, unfolding(crate::specs::Imports::is_unequal))]
-fn differs(list: &PackageList, names: &PackagePaths, import: ImportEntry<'_>) -> bool
+fn differs(list: &Loaded, names: &PackagePaths, import: ImportEntry<'_>) -> bool
     requires { paths_of list.now ≡ names.now }
     ensures { result ≡ is_unequal list.now (import_view import.entry) }
 {
@@ -96,7 +96,7 @@ fn differs(list: &PackageList, names: &PackagePaths, import: ImportEntry<'_>) ->
 
 // Whether an import is compared with the wave after the first `earlier` paths, and differs.
 fn is_refused(
-    list: &PackageList,
+    list: &Loaded,
     names: &PackagePaths,
     earlier: usize,
     import: ImportEntry<'_>,
@@ -113,7 +113,7 @@ fn is_refused(
 // The first of the imports from `from` on that is compared with the wave after the first
 // `earlier` paths, and differs.
 pub(crate) fn first_unequal<'a>(
-    list: &'a PackageList,
+    list: &'a Loaded,
     names: &PackagePaths,
     refs: &[ImportRef],
     from: usize,
@@ -148,7 +148,7 @@ fn is_unresolved(names: &PackagePaths, config: &Config, import: ImportEntry<'_>)
 
 // The first of the imports from `from` on that is neither `unsafe`, nor loaded, nor listed.
 pub(crate) fn first_missing<'a>(
-    list: &'a PackageList,
+    list: &'a Loaded,
     names: &PackagePaths,
     config: &Config,
     refs: &[ImportRef],
@@ -181,7 +181,7 @@ fn queue_path(alloc: Global, names: &mut PackagePaths, path: &[u8]) -> Result<()
 // Lists what the imports from `from` on ask for further.
 pub(crate) fn queue_imports(
     alloc: Global,
-    list: &PackageList,
+    list: &Loaded,
     names: &mut PackagePaths,
     refs: &[ImportRef],
     from: usize,
@@ -217,7 +217,7 @@ fn add_object(
 }
 
 // Adds the refs of the imports of package `p`.
-fn add_package(list: &PackageList, refs: &mut Vec<ImportRef>, p: usize) -> Result<(), OutOfMemory>
+fn add_package(list: &Loaded, refs: &mut Vec<ImportRef>, p: usize) -> Result<(), OutOfMemory>
     requires package { p < length list.now }
     requires refs { AreImportsOf list.now (take p list.now) refs.old.items }
     ensures { OnOk result (AreImportsOf list.now (take (p + 1) list.now) refs.new.items) }
@@ -232,7 +232,7 @@ fn add_package(list: &PackageList, refs: &mut Vec<ImportRef>, p: usize) -> Resul
 
 // Adds the refs of the imports of the packages from `from` on.
 pub(crate) fn add_imports(
-    list: &PackageList,
+    list: &Loaded,
     refs: &mut Vec<ImportRef>,
     from: usize,
 ) -> Result<(), OutOfMemory>

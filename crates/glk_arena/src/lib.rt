@@ -5,7 +5,6 @@ mod builtins;
 mod config;
 mod imports;
 mod laws;
-mod list;
 mod loaded;
 mod loader;
 mod packages;
@@ -13,13 +12,10 @@ mod parse_packages;
 mod paths;
 mod read_files;
 mod stored;
-#[cfg(test)]
-mod tests;
 mod waves;
 
 pub use builtins::{Builtin, Builtins};
 pub use config::Config;
 pub use laws::{one_file, one_load, some_config, some_load};
 pub use loaded::Loaded;
-pub use packages::PackageTable;
 pub use waves::load_waves;

@@ -1,9 +1,9 @@
 // Which loaded package a path means that an object stores.
-ghost use Rattle.std.specs.Prelude.{◌≡◌, ◌<◌, ◌^◌, ℕ, List, length, IfOk, OnOk, None};
+ghost use Rattle.std.specs.Prelude.{◌≡◌, ℕ, List, [], OnOk, None};
 ghost use Rattle.glk_arena.specs.Packages.{find_package};
-ghost use Rattle.glk_arena.specs.PackageViews.{place_in, Adds, IsTableOf};
+ghost use Rattle.glk_arena.specs.PackageViews.{place_in, Adds, AddsPath, IsTableOf};
 
-use glk_base::{OutOfMemory, Text, escaped_path};
+use glk_base::{OutOfMemory, escaped_path};
 use indexmap::IndexMap;
 use std::alloc::Global;
 
@@ -49,32 +49,37 @@ impl Spellings {
     }
 }
 
-/// The loaded packages by their paths, plain and in the escaped spelling.
+// The loaded packages by their paths, plain and in the escaped spelling.
 #[derive(Drop)]
-pub struct PackageTable {
+pub(crate) struct PackageTable {
     plain: Spellings,
     escaped: Spellings,
 }
 
 impl PackageTable {
-    /// The table of the packages with these paths, in load order.
-    pub fn new(alloc: Global, paths: &[Text]) -> Result<PackageTable, OutOfMemory>
-        requires { length paths.now < 2 ^ 32 }
-        ensures { IfOk result (IsTableOf paths.now) }
+    // The table of no packages.
+    pub(crate) fn new(alloc: Global) -> PackageTable
+        ensures { IsTableOf [] result }
     {
-        let mut plain = Spellings::new(alloc);
-        let mut escaped = Spellings::new(alloc);
-        for (i, path) in paths.iter().enumerate() {
-            plain.add(alloc, path.as_bytes(), i as u32)?;
-            let spelling = escaped_path(alloc, path.as_bytes())?;
-            escaped.add(alloc, spelling.as_bytes(), i as u32)?;
+        PackageTable {
+            plain: Spellings::new(alloc),
+            escaped: Spellings::new(alloc),
         }
-        Ok(PackageTable { plain, escaped })
     }
 
-    /// The index of the package that a stored path means: of the first one that has this path, else
-    /// of the first one whose escaped spelling it is. It takes no memory.
-    pub fn package_of(&self, name: &[u8]) -> Option<u32>
+    // One package more, with this path and number.
+    pub(crate) fn add(&mut self, alloc: Global, path: &[u8], place: u32) -> Result<(), OutOfMemory>
+        ensures { OnOk result (AddsPath path.now place self.old self.new) }
+    {
+        self.plain.add(alloc, path, place)?;
+        let spelling = escaped_path(alloc, path)?;
+        self.escaped.add(alloc, spelling.as_bytes(), place)?;
+        Ok(())
+    }
+
+    // The index of the package that a stored path means: of the first one that has this path, else
+    // of the first one whose escaped spelling it is. It takes no memory.
+    pub(crate) fn package_of(&self, name: &[u8]) -> Option<u32>
         ensures { (paths : List (List ℕ)) → IsTableOf paths self.now
             → result ≡ find_package paths name.now }
     {

@@ -3,17 +3,17 @@ ghost use Rattle.std.specs.Prelude.{◌≡◌, ◌≤◌, ◌+◌, length, drop,
 ghost use Rattle.std.specs.List.{sum_by};
 ghost use Rattle.glk_package.specs.ObjectRules.{rules_view};
 ghost use Rattle.glk_package.specs.Package.{PackageFile};
-ghost use Rattle.glk_arena.specs.World.{object_entries, file_bytes, package_limit};
+ghost use Rattle.glk_arena.specs.World.{file_bytes, package_limit};
 ghost use Rattle.glk_base.specs.Limits.{file_limit};
-ghost use Rattle.glk_arena.specs.Stored.{AreStored, IsWhole, stored_entry};
+ghost use Rattle.glk_arena.specs.Stored.{AreStored, IsWhole};
 ghost use Rattle.glk_arena.specs.LoadParts.{inputs_by, AppendsWave, HoldsStored, RefusesFormats, IsFormatRefusal, IsPackageIn};
 ghost use Rattle.glk_package.specs.PackageRefusal.{IsRefusedFor};
 
-use crate::list::PackageList;
+use crate::loaded::Loaded;
 use crate::loader::Loader;
 use crate::paths::PackagePaths;
 use crate::read_files::file_of;
-use crate::stored::{LoadedPackage, StoredObject, store_objects};
+use crate::stored::{LoadedPackage, StoredObjects, store_objects};
 use glk_base::{Fault, Text};
 use glk_cause::Cause;
 use glk_package::{ObjectRules, objects, package_refusal};
@@ -26,15 +26,15 @@ fn parse_package(
     rules: ObjectRules<'_>,
     path: &[u8],
     file: &[u8],
-) -> Result<Vec<StoredObject>, Fault<Cause>>
+) -> Result<StoredObjects, Fault<Cause>>
     requires { length file.now ≤ file_limit }
-    ensures ok { IfOk result (λ kept. HoldsStored (rules_view rules.entry) file.now kept.items) }
-    ensures held { IfOk result (λ kept. AreStored file.now kept.items) }
+    ensures ok { IfOk result (HoldsStored (rules_view rules.entry) file.now) }
+    ensures stored { IfOk result (λ kept. AreStored file.now kept.list.items) }
     ensures err { IfErr result (IsRefusedFor (IsFormatRefusal (rules_view rules.entry) file.now path.now)) }
 {
     match objects(alloc, file, rules) {
-        Ok(packed) => {
-            let kept = store_objects(alloc, file, &packed)?;
+        Ok(entries) => {
+            let kept = store_objects(alloc, file, &entries)?;
             Ok(kept)
         }
         Err(Fault::Bad(bad)) => Err(package_refusal(alloc, path, bad)),
@@ -68,9 +68,9 @@ pub(crate) fn append_wave(
     alloc: Global,
     loader: Loader<'_>,
     names: &PackagePaths,
-    earlier: PackageList,
+    earlier: Loaded,
     files: VecDeque<Text>,
-) -> Result<PackageList, Fault<Cause>>
+) -> Result<Loaded, Fault<Cause>>
     requires all { length earlier + length files.items ≡ length names.now }
     requires few { length names.now ≤ package_limit }
     requires small { file_bytes earlier + sum_by length files.items ≤ file_limit }
@@ -84,7 +84,7 @@ pub(crate) fn append_wave(
         let name = names.get(list.packages() as usize);
         let path = file_of(loader, name).as_bytes();
         match load_package(alloc, list.rules(), name, path, file) {
-            Ok(package) => list = list.push(package)?,
+            Ok(package) => list = list.push(alloc, package)?,
             Err(fault) => return Err(fault),
         }
     }

@@ -1,12 +1,13 @@
-// A loaded package, which owns its file and keeps where its objects are in it.
+// A loaded package, which owns its file and stores where its objects are in it.
 ghost use Rattle.std.specs.Prelude.{◌≡◌, ◌<◌, ◌≤◌, ℕ, List, [], length, map, get_or, All, IfOk, option_copied};
 ghost use Rattle.glk_obj.specs.Object.{IsObject};
-ghost use Rattle.glk_package.specs.ObjectEntry.{ObjectEntry, IsFoundIn};
+ghost use Rattle.glk_package.specs.ObjectEntry.{IsFoundIn};
+ghost use Rattle.glk_package.specs.HeaderRule.{first_line};
 ghost use Rattle.glk_package.specs.WidthRule.{first_width};
 ghost use Rattle.glk_arena.specs.World.{package_symbols};
 ghost use Rattle.glk_base.specs.Limits.{file_limit};
 ghost use Rattle.glk_arena.specs.Imports.{package_fingerprint};
-ghost use Rattle.glk_arena.specs.Stored.{AreStored, IsStored, IsWhole, stored_entry, first_set};
+ghost use Rattle.glk_arena.specs.Stored.{AreStored, IsStored, IsWhole, Stores, stored_data, first_set};
 
 use glk_base::{OutOfMemory, Text};
 use glk_obj::{ObjShape, ObjView};
@@ -20,72 +21,92 @@ const NO_FINGERPRINT: [u8; 8] = [0; 8];
 // An object of a file, by the offsets of its data there.
 #[derive(Drop)]
 pub(crate) struct StoredObject {
-    member: u32,
-    name: Option<Text>,
-    line: Text,
     at: usize,
     end: usize,
     shape: ObjShape,
 }
 
-// A copy of a member's name.
-fn copied_name(alloc: Global, name: Option<&[u8]>) -> Result<Option<Text>, OutOfMemory>
-    ensures { IfOk result (λ copy. copy ≡ option_copied name.entry) }
+// What is stored of the objects of a file: the header line of the first, and where each is.
+#[derive(Drop)]
+pub(crate) struct StoredObjects {
+    pub header: Option<Text>,
+    pub list: Vec<StoredObject>,
+}
+
+// A copy of a header line.
+pub(crate) fn copy_line(alloc: Global, line: Option<&[u8]>) -> Result<Option<Text>, OutOfMemory>
+    ensures { IfOk result (λ copy. copy ≡ option_copied line.entry) }
 {
-    match name {
-        Some(name) => {
-            let copy = Text::new(alloc, name)?;
+    match line {
+        Some(line) => {
+            let copy = Text::new(alloc, line)?;
             Ok(Some(copy))
         }
         None => Ok(None),
     }
 }
 
-// What is kept of an object of a file.
-fn store_object(
-    alloc: Global,
-    file: &[u8],
-    object: &ObjectEntry<'_>,
-) -> Result<StoredObject, OutOfMemory>
+// The header line of the first of these objects.
+fn line_of_first<'a>(objects: &[ObjectEntry<'a>]) -> Option<&'a [u8]>
+    ensures { option_copied result ≡ first_line objects.now }
+{
+    match objects.first() {
+        Some(object) => Some(object.line()),
+        None => None,
+    }
+}
+
+// What is stored of an object of a file.
+fn store_object(file: &[u8], object: &ObjectEntry<'_>) -> StoredObject
     requires { IsFoundIn file.now object.now }
-    ensures same { IfOk result (λ held. stored_entry file.now held ≡ object.now) }
-    ensures held { IfOk result (IsStored file.now) }
+    ensures same { stored_data file.now result ≡ object.now.goobj }
+    ensures stored { IsStored file.now result }
 {
     let _ = file;
-    let name = copied_name(alloc, object.name())?;
-    let line = Text::new(alloc, object.line())?;
     let at = object.at() as usize;
-    Ok(StoredObject {
-        member: object.member(),
-        name,
-        line,
+    StoredObject {
         at,
         end: at + object.goobj().len(),
         shape: object.shape(),
-    })
+    }
 }
 
-// What is kept of the objects of a file.
-pub(crate) fn store_objects(
+// What is stored of each of these objects of a file.
+fn store_list(
     alloc: Global,
     file: &[u8],
     objects: &[ObjectEntry<'_>],
 ) -> Result<Vec<StoredObject>, OutOfMemory>
     requires { All (IsFoundIn file.now) objects.now }
-    ensures same { IfOk result (λ kept. map (stored_entry file.now) kept.items ≡ objects.now) }
-    ensures held { IfOk result (λ kept. All (IsStored file.now) kept.items) }
+    ensures same { IfOk result (λ list. map (stored_data file.now) list.items ≡ map (λ o. o.goobj) objects.now) }
+    ensures stored { IfOk result (λ list. All (IsStored file.now) list.items) }
 {
-    let mut kept = Vec::with_capacity(alloc, objects.len())?;
+    let mut list = Vec::with_capacity(alloc, objects.len())?;
     for object in objects {
-        kept.push(store_object(alloc, file, object)?)?;
+        list.push(store_object(file, object))?;
     }
-    Ok(kept)
+    Ok(list)
+}
+
+// What is stored of the objects of a file.
+pub(crate) fn store_objects(
+    alloc: Global,
+    file: &[u8],
+    objects: &[ObjectEntry<'_>],
+) -> Result<StoredObjects, OutOfMemory>
+    requires { All (IsFoundIn file.now) objects.now }
+    ensures same { IfOk result (Stores file.now objects.now) }
+    ensures stored { IfOk result (λ kept. All (IsStored file.now) kept.list.items) }
+{
+    let header = copy_line(alloc, line_of_first(objects))?;
+    let list = store_list(alloc, file, objects)?;
+    Ok(StoredObjects { header, list })
 }
 
 // The first fingerprint of these objects that is not zero, else zero.
 fn first_fingerprint(file: &[u8], objects: &[StoredObject]) -> [u8; 8]
     requires { All (IsStored file.now) objects.now }
-    ensures { result ≡ first_set (map (stored_entry file.now) objects.now) }
+    ensures { result ≡ first_set (map (stored_data file.now) objects.now) }
 {
     for object in objects {
         let view = object.shape.view(&file[object.at..object.end]);
@@ -97,11 +118,13 @@ fn first_fingerprint(file: &[u8], objects: &[StoredObject]) -> [u8; 8]
     NO_FINGERPRINT
 }
 
-// A loaded package. Contracts see its path, its file and its objects.
+// A loaded package. Contracts see its path, its file, the header line of its first object, and the
+// data of its objects.
 #[derive(Drop)]
 pub(crate) struct LoadedPackage {
     path: Text,
     file: Text,
+    header: Option<Text>,
     objects: Vec<StoredObject>,
     print: [u8; 8],
 }
@@ -112,28 +135,31 @@ impl Model for LoadedPackage {
 
     ghost Value = { Package };
 
-    ghost use Rattle.glk_arena.specs.Stored.{AreStored, HasFingerprint, stored_entry};
+    ghost use Rattle.glk_arena.specs.Stored.{AreStored, HasFingerprint, stored_data};
 
-    ghost view = { λ p. record { path = p.path; file = p.file; objects = map (stored_entry p.file) p.objects.items } };
+    ghost view = { λ p. record { path = p.path; file = p.file; header = p.header; objects = map (stored_data p.file) p.objects.items } };
 
     ghost invariant = { λ p. HasFingerprint p.file p.objects.items p.print };
 }
 
 impl LoadedPackage {
-    pub(crate) fn new(path: Text, file: Text, objects: Vec<StoredObject>) -> LoadedPackage
-        requires { AreStored file objects.items }
+    pub(crate) fn new(path: Text, file: Text, objects: StoredObjects) -> LoadedPackage
+        requires { AreStored file objects.list.items }
         ensures value { result ≡ record {
           path = path;
           file = file;
-          objects = map (stored_entry file) objects.items;
+          header = objects.header;
+          objects = map (stored_data file) objects.list.items;
         } }
         ensures whole { IsWhole result }
     {
-        let print = first_fingerprint(file.as_bytes(), &objects);
+        let StoredObjects { header, list } = objects;
+        let print = first_fingerprint(file.as_bytes(), &list);
         LoadedPackage {
             path,
             file,
-            objects,
+            header,
+            objects: list,
             print,
         }
     }
@@ -161,8 +187,8 @@ impl LoadedPackage {
     // Its object `i`, without another check.
     pub(crate) fn object(&self, i: usize) -> ObjView<'_>
         requires { i < length self.now.objects }
-        ensures object { IsObject (get_or (map (λ o. o.goobj) self.now.objects) i []) }
-        ensures value { result ≡ get_or (map (λ o. o.goobj) self.now.objects) i [] }
+        ensures object { IsObject (get_or self.now.objects i []) }
+        ensures value { result ≡ get_or self.now.objects i [] }
     {
         let object = &self.objects[i];
         object
@@ -170,12 +196,14 @@ impl LoadedPackage {
             .view(&self.file.as_bytes()[object.at..object.end])
     }
 
-    // The line of its first object.
-    pub(crate) fn first_line(&self) -> &[u8]
-        requires { 0 < length self.now.objects }
-        ensures { (d : ObjectEntry) → result.now ≡ (get_or self.now.objects 0 d).line }
+    // The header line of its first object.
+    pub(crate) fn header(&self) -> Option<&[u8]>
+        ensures { option_copied result ≡ self.now.header }
     {
-        self.objects[0].line.as_bytes()
+        match &self.header {
+            Some(line) => Some(line.as_bytes()),
+            None => None,
+        }
     }
 
     // Its fingerprint: the first among its objects that is not zero, else zero.

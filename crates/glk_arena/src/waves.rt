@@ -15,10 +15,8 @@ use crate::config::Config;
 use crate::imports::{
     ImportRef, add_imports, fingerprint_of, first_missing, first_unequal, queue_imports,
 };
-use crate::list::PackageList;
 use crate::loaded::Loaded;
 use crate::loader::Loader;
-use crate::packages::PackageTable;
 use crate::parse_packages::append_wave;
 use crate::paths::PackagePaths;
 use crate::read_files::{MAIN, read_wave};
@@ -54,9 +52,9 @@ fn load_files<F: Files>(
     alloc: Global,
     loader: Loader<'_>,
     names: &PackagePaths,
-    earlier: PackageList,
+    earlier: Loaded,
     files: &mut F,
-) -> Result<PackageList, Fault<Cause>>
+) -> Result<Loaded, Fault<Cause>>
     requires some { length earlier ≤ length names.now }
     requires few { length names.now ≤ package_limit }
     requires files { All (HasFile (inputs_by loader)) names.now }
@@ -77,7 +75,7 @@ fn load_files<F: Files>(
 // or the first that is missing, of those from `known` on.
 fn import_refusal(
     alloc: Global,
-    list: &PackageList,
+    list: &Loaded,
     names: &PackagePaths,
     config: &Config,
     refs: &[ImportRef],
@@ -109,42 +107,29 @@ fn import_refusal(
     }
 }
 
-// The paths of packages.
-fn loaded_paths(alloc: Global, packages: &PackageList) -> Result<Vec<Text>, OutOfMemory>
-    ensures { IfOk result (λ paths. paths.items ≡ paths_of packages.now) }
-{
-    let count = packages.packages() as usize;
-    let mut paths = Vec::with_capacity(alloc, count)?;
-    for p in 0..count {
-        paths.push(Text::new(alloc, packages.package(p).path())?)?;
-    }
-    Ok(paths)
-}
-
-// The loaded packages, with a table of their paths.
-fn with_table(alloc: Global, list: PackageList) -> Result<Loaded, OutOfMemory>
-    ensures same { IfOk result (λ loaded. loaded ≡ list) }
-    ensures few { IfOk result (λ loaded. length loaded ≤ package_limit) }
-    ensures small { IfOk result (λ loaded. file_bytes loaded ≤ file_limit) }
-    ensures objects { IfOk result (λ loaded. All IsObject (objects_of loaded)) }
+// Loaded packages, with what holds of all of them.
+fn checked(list: Loaded) -> Loaded
+    ensures same { result ≡ list }
+    ensures few { length result ≤ package_limit }
+    ensures small { file_bytes result ≤ file_limit }
+    ensures objects { All IsObject (objects_of result) }
 {
     let _ = list.bytes();
     let _ = list.packages();
-    let paths = loaded_paths(alloc, &list)?;
-    let table = PackageTable::new(alloc, &paths)?;
-    Ok(Loaded::new(list, table))
+    list
 }
+
 // Loads one wave after the packages of a list, and lists the next. Of the imports those
 // before `compared` were compared before the last wave.
 fn one_wave<F: Files>(
     alloc: Global,
     loader: Loader<'_>,
     names: &mut PackagePaths,
-    list: PackageList,
+    list: Loaded,
     refs: &mut Vec<ImportRef>,
     compared: usize,
     files: &mut F,
-) -> Result<PackageList, Fault<Cause>>
+) -> Result<Loaded, Fault<Cause>>
     requires { let known = (F.state files.old).contents in
         IsLoading (inputs_by loader) known names.old list refs.old.items compared }
     ensures ok { let known = (F.state files.old).contents in let before = length refs.old.items in
@@ -196,15 +181,14 @@ pub fn load_waves<F: Files>(
 {
     let loader = Loader { main, config };
     let mut names = first_names(alloc, config)?;
-    let mut list = PackageList::new(alloc);
+    let mut list = Loaded::new(alloc);
     let mut refs = Vec::new(alloc);
     let mut compared = 0;
     'waves: loop {
         let known = refs.len();
         list = one_wave(alloc, loader, &mut names, list, &mut refs, compared, files)?;
         if names.len() == list.packages() as usize {
-            let loaded = with_table(alloc, list)?;
-            return Ok(loaded);
+            return Ok(checked(list));
         }
         if names.len() > PACKAGE_LIMIT {
             return Err(Fault::Bad(Cause::TooLarge {

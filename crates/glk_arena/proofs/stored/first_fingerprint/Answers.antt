@@ -6,13 +6,13 @@ use Rattle.glk_arena.proofs.stored.first_fingerprint.Goals as goal
 pub returns-then-ne : goal.returns-then-ne
 returns-then-ne c =
     let is = c.fingerprint-print.ensures ∙ ap fingerprint c.view-view.ensures in
-    let step = print_step c.args.file.now c.args.objects.now c.loop-object.object-index c.object-item.result c.fingerprint-print.result c.loop-object-test.true c.object-item.is is in
+    let step = print_step c.args.file.now c.args.objects.now c.loop-object.object-index _ c.fingerprint-print.result c.loop-object-test.true is in
     sym (step.0 (sym c.ne.ensures ∙ c.if-ne.true)) ∙ c.loop-object.invariant
 
 pub loop-object-preserved : goal.loop-object-preserved
 loop-object-preserved c =
     let is = c.fingerprint-print.ensures ∙ ap fingerprint c.view-view.ensures in
-    let step = print_step c.args.file.now c.args.objects.now c.loop-object.object-index c.object-item.result c.fingerprint-print.result c.loop-object-test.true c.object-item.is is in
+    let step = print_step c.args.file.now c.args.objects.now c.loop-object.object-index _ c.fingerprint-print.result c.loop-object-test.true is in
     sym (step.1 (sym c.ne.ensures ∙ c.if-ne.false)) ∙ c.loop-object.invariant
 
 pub returns : goal.returns

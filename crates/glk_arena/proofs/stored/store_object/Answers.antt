@@ -4,8 +4,8 @@ use Rattle.glk_obj.specs.Views.{IsShapeOf}
 use Rattle.glk_package.proofs.BodiesAt.{is_at_end}
 use Rattle.glk_arena.proofs.stored.store_object.Goals as goal
 
-pub returns-clause-held : goal.returns-clause-held
-returns-clause-held c =
+pub returns-clause-stored : goal.returns-clause-stored
+returns-clause-stored c =
     let file : List ℕ = c.args.file.now in
     let goobj : List ℕ = c.args.object.now.goobj in
     let at : c.at-at.result ≡ c.args.object.now.at = c.at-at.ensures in

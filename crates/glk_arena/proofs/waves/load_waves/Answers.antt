@@ -28,7 +28,7 @@ returns-then-len-packages-clause-loads g c =
     let ends = loop_end inputs contents c.waves.names c.one_wave.new.names c.waves.list c.in_ok-list.list c.waves.refs.items c.one_wave.new.refs.items c.waves.compared
     c.waves.invariant.loading is (omega (arith, c.len.ensures, c.if-len-packages.true, c.packages.ensures.value)) in (
       c.in_ok-list.ensures.same ∙ c.waves.invariant.unchanged,
-      subst (λ (w : List Package). IfKnown contents (λ held. IsLoad inputs held (Ok w))) (sym c.in_ok-loaded.ensures.same) ends,
+      subst (λ (w : List Package). IfKnown contents (λ held. IsLoad inputs held (Ok w))) (sym c.checked.ensures.same) ends,
     )
 
 pub returns-then-len-gt-PACKAGE_LIMIT-clause-loads : goal.returns-then-len-gt-PACKAGE_LIMIT-clause-loads

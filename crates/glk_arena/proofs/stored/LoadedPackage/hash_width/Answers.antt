@@ -1,4 +1,4 @@
-use Rattle.std.proofs.Common.{◌≡◌, ◌+◌, ◌∙◌, drop, sym, ap, arith}
+use Rattle.std.proofs.Common.{◌+◌, ◌∙◌, drop, sym, ap, arith}
 use Rattle.std.specs.Option.{option_or}
 use Rattle.glk_package.specs.WidthRule.{first_width}
 use Rattle.glk_arena.proofs.StoredLemmas.{width_step}

@@ -4,4 +4,4 @@ use Rattle.glk_obj.specs.Records.{symbols}
 use Rattle.glk_arena.proofs.stored.LoadedPackage.symbols.Given as goal
 
 abbrev pub invariant-loop-i : goal.invariant-loop-i
-invariant-loop-i l = l.symbols ≡ sum_by (λ o. symbols o.goobj) (take l.i l.self.objects)
+invariant-loop-i l = l.symbols ≡ sum_by symbols (take l.i l.self.objects)

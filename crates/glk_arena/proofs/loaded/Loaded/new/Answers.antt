@@ -1,0 +1,7 @@
+use Rattle.glk_arena.proofs.TableLemmas.{indexed_none}
+use Rattle.glk_arena.proofs.loaded.Loaded.new.Goals as goal
+
+pub invariant_of-result : goal.invariant_of-result
+invariant_of-result c =
+    indexed_none c.new.result.items c.new-2.result.items c.new-3.result.items c.new-4.result.items c.new-5.result
+    c.new.ensures.items c.new-2.ensures.items c.new-3.ensures.items c.new-4.ensures.items c.new-5.ensures
