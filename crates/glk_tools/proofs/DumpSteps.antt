@@ -15,7 +15,8 @@ use Rattle.glk_cause.proofs.PrintingLaws.{printing_stopped, printing_done, print
 use Rattle.glk_package.specs.declared.refusal.PackageBad.{PackageBad}
 use Rattle.glk_package.specs.declared.refusal.PackageBad.TheVariants as bad
 use Rattle.glk_tools.specs.Stdout.{stdout, Prints}
-use Rattle.glk_package.specs.PackageRefusal.{refusal_of}
+use Rattle.glk_package.specs.PackageRefusal.{refusal_of, IsFaultOfFile}
+use Rattle.glk_tools.specs.PackageText.{IsPackageText}
 use Rattle.glk_tools.specs.Dump.{package_limit, IsTextOf, GivesText, IsOneDump, IsOfPackageFile, PackageAnswer, DumpAllows, DumpAnswer, DumpUnlessIoFails}
 use Rattle.glk_tools.proofs.Sections.{one_text}
 use Rattle.glk_tools.proofs.MustAnswers.{printing_must}
@@ -50,6 +51,12 @@ pub not_read : (old new : FileState) (path : List ℕ) (e : Fault Cause)
 not_read old new path e h =
     reading_stopped old new (IsOfPath path) (IsOfPackageFile path) (IsWhole path package_limit package_limit) (GivesText path) (λ (t : List ℕ). t) (λ (a : Vec ℕ Global). a.items)
     (path_only path) (always old.contents (λ files refusal is. stops refusal is)) e h
+
+-- its objects have a fault
+pub refused : (path file : List ℕ) (broken : PackageBad) (e : Fault Cause) → IsPackageText file (Err broken) → IsFaultOfFile path broken e
+    → Answers (IsTextOf path file) (λ (text : Vec ℕ Global). text.items) (Err e)
+refused path file broken (fault.Bad refusal) text is = (broken, text, is)
+refused path file broken fault.OutOfMemory text is = tt
 
 -- the file was read, and its objects were made this
 broken_file : (path : List ℕ) (broken : PackageBad) → IsOfPackageFile path (sort_of (refusal_of path broken)) × IsPure (sort_of (refusal_of path broken))

@@ -1,16 +1,15 @@
 // The command `dump`: the objects of a package file are printed.
-ghost use Rattle.std.specs.Prelude.{◌≡◌, ◌≤◌, length};
+ghost use Rattle.std.specs.Prelude.{◌≤◌, length};
 ghost use Rattle.glk_base.specs.Limits.{file_limit};
 ghost use Rattle.glk_cause.specs.Chain.{Answers};
-ghost use Rattle.glk_package.specs.PackageRefusal.{refusal_of as refusal_by};
 ghost use Rattle.glk_tools.specs.Dump.{IsTextOf, PackageAnswer, DumpAnswer, DumpUnlessIoFails};
 
 use crate::package_text::dump_text;
 use crate::stdout::print;
-use glk_base::{Fault, Text};
+use glk_base::Fault;
 use glk_cause::{Cause, read_named};
 use glk_io::{Files, Sink};
-use glk_package::PackageBad;
+use glk_package::package_refusal;
 use std::alloc::Global;
 
 // How long a package file may be.
@@ -67,41 +66,7 @@ fn text_of(alloc: Global, path: &str, file: &[u8]) -> Result<Vec<u8>, Fault<Caus
 {
     match dump_text(alloc, file) {
         Ok(text) => Ok(text),
-        Err(Fault::Bad(broken)) => {
-            let named = Text::new(alloc, path.as_bytes())?;
-            Err(Fault::Bad(refusal(named, broken)))
-        }
+        Err(Fault::Bad(broken)) => Err(package_refusal(alloc, path.as_bytes(), broken)),
         Err(Fault::OutOfMemory) => Err(Fault::OutOfMemory),
-    }
-}
-
-// The refusal of a package file for its first fault.
-fn refusal(path: Text, broken: PackageBad) -> Cause
-    ensures { result ≡ refusal_by path broken }
-{
-    match broken {
-        PackageBad::NotGo { member } => Cause::NotGoObject { path, member },
-        PackageBad::HeaderMismatch {
-            member,
-            first,
-            here,
-        } => Cause::HeaderLine {
-            path,
-            member,
-            first,
-            here,
-        },
-        PackageBad::Malformed {
-            member,
-            family,
-            rule,
-            offset,
-        } => Cause::Malformed {
-            path,
-            member,
-            family,
-            rule,
-            offset,
-        },
     }
 }
