@@ -59,7 +59,7 @@ object_number p = length p.objects
 
 total : (world : List Package) → length (objects_of world) ≡ sum_by object_number world
 unfolding objects_of
-total world = length-map (flat_map (λ p. p.objects) world) (λ o. o.goobj) ∙ length-flat_map (λ p. p.objects) world
+total world = length-flat_map (λ p. p.objects) world
 
 inside : (world : List Package) (q : ℕ) → 0 < sum_by object_number (take 1 (drop q world)) → sum_by object_number (take q world) < sum_by object_number world
 inside [] zero h = absurd (omega arith)

@@ -6,8 +6,8 @@ use Rattle.glk_cause.specs.declared.cause.Cause.{Cause}
 use Rattle.glk_cause.proofs.ChainLaws.{then_given, finds_given}
 use Rattle.glk_io.specs.Contents.{Contents}
 use Rattle.glk_package.specs.ObjectRules.{ObjectRules}
-use Rattle.glk_package.proofs.Room.{whole as objects_whole, fit}
-use Rattle.glk_arena.specs.World.{Package}
+use Rattle.glk_arena.proofs.StoredLemmas.{file_whole}
+use Rattle.glk_arena.specs.World.{Package, package_of_file}
 use Rattle.glk_arena.specs.Stored.{IsWhole}
 use Rattle.glk_arena.specs.Waves.{LoadInputs, Formats, all_whole, broken, whole, broken_later, Wave, Loads, refused, last, crowded, further, IsLoad}
 
@@ -25,8 +25,8 @@ formats_whole : (inputs : LoadInputs) (wanted : ObjectRules) (paths files : List
 formats_whole inputs wanted paths files answer wave (all_whole w) e = subst (λ (v : List Package). All IsWhole v) (same_packages [] wave e) (All-nil IsWhole)
 formats_whole inputs wanted paths files answer wave (broken w path ps file fs fault h) e = absurd (no_packages _ wave e)
 formats_whole inputs wanted paths files answer wave (whole w path ps file fs objects later h rest) e =
-    let p : Package = record { path = path; file = file; objects = objects } in
-    let here : IsWhole p = record { objects = objects_whole w file objects h; fit = fit w file objects h } in
+    let p : Package = package_of_file path file objects in
+    let here : IsWhole p = file_whole w path file objects h in
     subst (λ (v : List Package). All IsWhole v) (same_packages (p ∷ later) wave e)
     (All-cons IsWhole p later here (formats_whole inputs _ ps fs (Ok later) later rest refl))
 formats_whole inputs wanted paths files answer wave (broken_later w path ps file fs objects refusal h rest) e = absurd (no_packages refusal wave e)

@@ -1,12 +1,12 @@
 -- What the packages that are loaded say of the world of a link.
 use Rattle.std.proofs.Common.{◌≡◌, ◌<◌, ◌≤◌, ◌+◌, ◌-◌, ◌^◌, ◌++◌, ◌⊎◌, ℕ, zero, suc, List, [], ◌∷◌, length, map, get_or, All, inl, inr, refl, sym, ap, ◌∙◌, subst, arith}
-use Rattle.std.specs.List.{Contains, AllPairs}
+use Rattle.std.specs.List.{Contains, AllPairs, sum_by}
 use Rattle.std.proofs.lemmas.Bool.{cases_lt, cases_order}
-use Rattle.std.proofs.lemmas.List.{map-append, get_or_default}
+use Rattle.std.proofs.lemmas.List.{get_or_default}
 use Rattle.std.proofs.lemmas.List.Elements.{All-head, All-tail, All-append, Contains-get_or}
 use Rattle.std.proofs.lemmas.List.Sums.{sum_by-cons}
 use Rattle.glk_obj.specs.Object.{IsObject}
-use Rattle.glk_package.specs.ObjectEntry.{ObjectEntry, data_bytes}
+use Rattle.std.proofs.lemmas.List.Concat.{flat_map-cons}
 use Rattle.glk_arena.specs.World.{Package, objects_of, file_bytes, symbol_count}
 use Rattle.glk_base.specs.Limits.{file_limit}
 use Rattle.glk_arena.specs.Stored.{IsWhole}
@@ -18,27 +18,19 @@ use Rattle.glk_link.proofs.RowLaws.{rows_within}
 use Rattle.glk_link.proofs.PlaceSteps.{place_below}
 
 -- the objects of a package and of those after it
-objects_here : (p : Package) (later : List Package) → objects_of (p ∷ later) ≡ map (λ o. o.goobj) p.objects ++ objects_of later
+objects_here : (p : Package) (later : List Package) → objects_of (p ∷ later) ≡ p.objects ++ objects_of later
 unfolding objects_of
-objects_here p later = map-append (λ o. o.goobj) p.objects _
-
-entry_objects : (entries : List ObjectEntry) → All (λ o. IsObject o.goobj) entries → AreObjects (map (λ o. o.goobj) entries)
-entry_objects entries all k d l = each_object entries all k d l
-  where
-    each_object : (xs : List ObjectEntry) → All (λ o. IsObject o.goobj) xs → AreObjects (map (λ o. o.goobj) xs)
-    each_object [] all k d l = absurd (omega (arith, l))
-    each_object (x ∷ xs) all zero d l = all 0 x (omega arith)
-    each_object (x ∷ xs) all (suc k) d l = each_object xs (All-tail (λ o. IsObject o.goobj) x xs all) k d (omega (arith, l))
+objects_here p later = flat_map-cons (λ q. q.objects) p later
 
 byte_append : (xs ys : List (List ℕ)) → byte_count (xs ++ ys) ≡ byte_count xs + byte_count ys
 unfolding byte_count
 byte_append [] ys = omega arith
 byte_append (x ∷ xs) ys = let behind = byte_append xs ys in omega (arith, behind)
 
-entry_bytes : (entries : List ObjectEntry) → byte_count (map (λ o. o.goobj) entries) ≡ data_bytes entries
-unfolding byte_count data_bytes
-entry_bytes [] = refl
-entry_bytes (p ∷ entries) = let h = entry_bytes entries in omega (arith, h)
+total_bytes : (objects : List (List ℕ)) → byte_count objects ≡ sum_by length objects
+unfolding byte_count
+total_bytes [] = refl
+total_bytes (o ∷ objects) = let h = total_bytes objects in omega (arith, h, sum_by-cons length o objects)
 
 no_objects : AreObjects (objects_of [])
 unfolding objects_of
@@ -55,11 +47,11 @@ fitting (p ∷ later) whole =
     let here : IsWhole p = All-head IsWhole p later whole in
     let behind = fitting later (All-tail IsWhole p later whole) in
     let split = objects_here p later in
-    let count : byte_count (objects_of (p ∷ later)) ≡ data_bytes p.objects + byte_count (objects_of later) =
-    ap (λ xs. byte_count xs) split ∙ byte_append (map (λ o. o.goobj) p.objects) (objects_of later) ∙ ap (λ k. k + byte_count (objects_of later)) (entry_bytes p.objects) in
+    let count : byte_count (objects_of (p ∷ later)) ≡ sum_by length p.objects + byte_count (objects_of later) =
+    ap (λ xs. byte_count xs) split ∙ byte_append p.objects (objects_of later) ∙ ap (λ k. k + byte_count (objects_of later)) (total_bytes p.objects) in
     record {
       objects = let P : List (List ℕ) → Type 0 = λ xs. AreObjects xs in
-          subst P (sym split) (All-append IsObject (map (λ o. o.goobj) p.objects) (objects_of later) (entry_objects p.objects here.objects) behind.objects);
+          subst P (sym split) (All-append IsObject p.objects (objects_of later) here.objects behind.objects);
       fit = omega (arith, count, here.fit, behind.fit, sum_by-cons (λ q. length q.file) p later);
     }
 
