@@ -29,7 +29,7 @@ help_text =
     ++ codes "      example: golink mkobj -o main.a main.txt\n"
     ++ codes "  dump       prints the objects of a package file in text form\n"
     ++ codes "      example: golink dump main.a\n"
-    ++ codes "  nm         lists the symbols of an image (not built yet)\n"
+    ++ codes "  nm         lists the symbols of an image\n"
     ++ codes "      -n               by address, as -sort address\n"
     ++ codes "      -size            with sizes\n"
     ++ codes "      -sort ORDER      address, name, none or size (default name)\n"

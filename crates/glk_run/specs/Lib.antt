@@ -1,3 +1,4 @@
 pub mod Help
 pub mod LinkWords
 pub mod Outcomes
+pub mod NmWords

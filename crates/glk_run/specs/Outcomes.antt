@@ -16,11 +16,14 @@ use Rattle.glk_link.specs.declared.options.LinkOptions.{LinkOptions}
 use Rattle.glk_link.specs.declared.options.Report.{Report}
 use Rattle.glk_tools.specs.Mkobj.{MkobjAnswer, MkobjUnlessIoFails}
 use Rattle.glk_tools.specs.Dump.{DumpAnswer, DumpUnlessIoFails}
+use Rattle.glk_tools.specs.Nm.{NmAnswer, NmUnlessIoFails}
+use Rattle.glk_nm.specs.declared.options.NmOptions.{NmOptions}
 use Rattle.glk_tools.specs.Stdout.{Prints}
 use Rattle.glk_messages.specs.Outcomes.{outcome_of}
 use Rattle.glk_messages.specs.declared.outcome.Outcome.{Outcome}
 use Rattle.glk_messages.specs.declared.outcome.Outcome.TheVariants as outcome
 use Rattle.glk_run.specs.LinkWords.{IsLink}
+use Rattle.glk_run.specs.NmWords.{IsListing}
 use Rattle.glk_run.specs.Help.{help_text, version_text}
 
 -- The outcome is that of an answer of this link, and means what that answer means; the answer is the one that must come. What
@@ -57,6 +60,15 @@ pub record DumpOutcome (old new : FileState) (before after : SinkState) (path : 
   pub means : DumpAnswer old new before after path answer
   pub must : DumpUnlessIoFails old new before after path answer
 
+-- what `nm` does: the outcome is that of its answer, and the answer is the one that must come
+pub record NmOutcome (old new : FileState) (before after : SinkState) (words : Invocation) (o : Outcome) : Type 0 where
+  pub opts : NmOptions
+  pub asked : IsListing words opts
+  pub answer : Result (Unit {0}) (Fault Cause)
+  pub outcome_is : o ≡ outcome_of answer
+  pub means : NmAnswer old new before after opts words.file answer
+  pub must : NmUnlessIoFails old new before after opts words.file answer
+
 -- a text of the program's own is printed
 pub record PrintOutcome (before after : SinkState) (text : List ℕ) (o : Outcome) : Type 0 where
   pub answer : Result (Unit {0}) (Fault Cause)
@@ -68,11 +80,12 @@ pub record IsUnbuilt (old new : FileState) (refusal : Cause) (o : Outcome) : Typ
   pub outcome_is : o ≡ outcome.Refused refusal
   pub files : FilesUnchanged old new
 
--- what a command does; `dump` alone writes to standard output
+-- what a command does; `dump` and `nm` alone write to standard output
 abbrev pub CommandOutcome : FileState → FileState → SinkState → SinkState → Invocation → Command → Outcome → Type 0
 CommandOutcome old new before after words command.Link o = SinkUnchanged before after × LinkOutcome old new words o
 CommandOutcome old new before after words command.Mkobj o = SinkUnchanged before after × MkobjOutcome old new words o
 CommandOutcome old new before after words command.Dump o = DumpOutcome old new before after words.file o
+CommandOutcome old new before after words command.Nm o = NmOutcome old new before after words o
 CommandOutcome old new before after words c o = SinkUnchanged before after × IsUnbuilt old new (cause.NotYet form.Command) o
 
 -- what the words ask for is done
@@ -94,18 +107,25 @@ RunOutcome old new before after words o =
     (λ bad. DoesNothing old new before after (outcome.Usage bad) o)
     ⊎ DoesNothing old new before after outcome.OutOfMemory o
 
--- The words ask for nothing that is printed: they are faulty, or of another command than `dump`.
+-- these commands print what a file holds
+abbrev pub PrintsFile : Command → Type 0
+PrintsFile command.Dump = ⊤
+PrintsFile command.Nm = ⊤
+PrintsFile c = ⊥
+
+-- The words ask for nothing that is printed: they are faulty, or of a command that prints no file.
 abbrev pub PrintsNothing : Result CommandLine UsageBad → Type 0
 PrintsNothing (Err bad) = ⊤
 PrintsNothing (Ok help) = ⊥
 PrintsNothing (Ok version) = ⊥
-PrintsNothing (Ok (invocation words)) = ¬ (words.command ≡ command.Dump)
+PrintsNothing (Ok (invocation words)) = ¬ PrintsFile words.command
 
 -- these commands are built
 abbrev pub IsBuilt : Command → Type 0
 IsBuilt command.Link = ⊤
 IsBuilt command.Mkobj = ⊤
 IsBuilt command.Dump = ⊤
+IsBuilt command.Nm = ⊤
 IsBuilt c = ⊥
 
 -- The words ask for nothing for which a file is opened: they are faulty, or of a command that is not built yet, or for

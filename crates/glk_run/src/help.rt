@@ -37,7 +37,7 @@ usage: golink COMMAND [FLAGS] [FILE]\n\
 \x20     example: golink mkobj -o main.a main.txt\n\
 \x20 dump       prints the objects of a package file in text form\n\
 \x20     example: golink dump main.a\n\
-\x20 nm         lists the symbols of an image (not built yet)\n\
+\x20 nm         lists the symbols of an image\n\
 \x20     -n               by address, as -sort address\n\
 \x20     -size            with sizes\n\
 \x20     -sort ORDER      address, name, none or size (default name)\n\

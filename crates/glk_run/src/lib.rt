@@ -4,6 +4,7 @@
 mod cmd_dump;
 mod cmd_link;
 mod cmd_mkobj;
+mod cmd_nm;
 mod help;
 mod program;
 mod stdout;

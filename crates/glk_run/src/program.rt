@@ -1,14 +1,14 @@
 // All that the program does.
 ghost use Rattle.std.specs.Prelude.{◌≡◌};
 ghost use Rattle.glk_words.specs.Words.{texts_of};
-ghost use Rattle.glk_words.specs.declared.commands.Command.TheVariants as command;
 ghost use Rattle.glk_words.specs.CommandLine.{command_line_of, invocation_view, settings_of, AreAccepted};
 ghost use Rattle.glk_messages.specs.Messages.{Reports};
-ghost use Rattle.glk_run.specs.Outcomes.{IsBuilt, OpensNothing, PrintsNothing, CommandOutcome, RunOutcome};
+ghost use Rattle.glk_run.specs.Outcomes.{IsBuilt, PrintsFile, OpensNothing, PrintsNothing, CommandOutcome, RunOutcome};
 
 use crate::cmd_dump::dump_command;
 use crate::cmd_link::link_command;
 use crate::cmd_mkobj::mkobj_command;
+use crate::cmd_nm::nm_command;
 use crate::help::{help, version};
 use crate::stdout::print_text;
 use glk_base::Fault;
@@ -23,8 +23,8 @@ use std::thread::Threads;
 /// message of every outcome but Done to `err`.
 ///
 /// No file but the output file is ever changed, and that one only where no refusal comes before
-/// the write. Only `dump`, `--help` and `--version` write to `out`, and `input` is not read. A fault
-/// of `err` changes nothing else.
+/// the write. Only `dump`, `nm`, `--help` and `--version` write to `out`, and `input` is not read.
+/// A fault of `err` changes nothing else.
 pub fn run<R: Threads + Sync, F: Files, I: Source, O: Sink, E: Sink>(
     rt: &R,
     alloc: Global,
@@ -79,13 +79,14 @@ fn dispatch<R: Threads + Sync, F: Files, O: Sink>(
     requires { AreAccepted (settings_of invocation.now) }
     ensures outcome { CommandOutcome (F.state files.old) (F.state files.new)
         (O.state out.old) (O.state out.new) (invocation_view invocation.now) invocation.now.command result }
-    ensures silent { ¬ (invocation.now.command ≡ command.Dump) → out.new ≡ out.old }
+    ensures silent { ¬ PrintsFile invocation.now.command → out.new ≡ out.old }
     ensures idle { ¬ IsBuilt invocation.now.command → files.new ≡ files.old }
 {
     match invocation.command {
         Command::Link => link_command(rt, alloc, invocation, files),
         Command::Mkobj => mkobj_command(alloc, invocation, files),
         Command::Dump => dump_command(alloc, invocation.file, files, out),
+        Command::Nm => nm_command(alloc, invocation, files, out),
         _ => Outcome::Refused(Cause::NotYet {
             form: Form::Command,
         }),

@@ -3,3 +3,4 @@ pub mod Sections
 pub mod MustAnswers
 pub mod MkobjSteps
 pub mod DumpSteps
+pub mod NmSteps

@@ -4,3 +4,4 @@ pub mod MustAnswer
 pub mod Stdout
 pub mod Mkobj
 pub mod Dump
+pub mod Nm

@@ -2,6 +2,7 @@
 // nothing when they run.
 ghost use Rattle.glk_tools.specs.Dump.{IsOneDump};
 ghost use Rattle.glk_tools.specs.Mkobj.{IsOneArchive};
+ghost use Rattle.glk_tools.specs.Nm.{IsOneListing};
 ghost use Rattle.glk_tools.specs.PackageText.{IsOneText};
 
 /// A package file has one text, or one first fault, and not both.
@@ -17,4 +18,9 @@ pub fn one_archive()
 /// The package file at a path gives one text, or one first refusal, and not both.
 pub fn one_dump()
     ensures { IsOneDump }
+{}
+
+/// The image at a path gives one listing of its symbols, or one first refusal, and not both.
+pub fn one_listing()
+    ensures { IsOneListing }
 {}

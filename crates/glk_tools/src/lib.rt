@@ -1,8 +1,10 @@
-//! golink's tools on files and streams: the archive of a text, and the text of a package file.
+//! golink's tools on files and streams: the archive of a text, the text of a package file, and the
+//! symbols of an image.
 #![tactic(auto)]
 
 mod cmd_dump;
 mod cmd_mkobj;
+mod cmd_nm;
 mod laws;
 mod package_text;
 mod stdout;
@@ -10,7 +12,8 @@ mod text_archive;
 
 pub use cmd_dump::dump;
 pub use cmd_mkobj::mkobj;
-pub use laws::{one_archive, one_dump, one_text};
+pub use cmd_nm::nm;
+pub use laws::{one_archive, one_dump, one_listing, one_text};
 pub use package_text::dump_text;
 pub use stdout::print;
 pub use text_archive::{MakeBad, make_archive};

@@ -8,7 +8,7 @@ use glk_io::{Sink, write_all};
 use std::alloc::Global;
 
 // How standard output is named in a message.
-const STDOUT: &[u8] = b"stdout";
+pub(crate) const STDOUT: &[u8] = b"stdout";
 
 /// Prints a text on standard output.
 ///

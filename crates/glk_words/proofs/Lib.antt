@@ -4,3 +4,4 @@ pub mod Settings
 pub mod WordSteps
 pub mod Accepted
 pub mod Spelled
+pub mod Orders

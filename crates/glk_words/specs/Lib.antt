@@ -4,3 +4,4 @@ pub mod Commands
 pub mod CommandLine
 pub mod Steps
 pub mod Laws
+pub mod SymbolOrders

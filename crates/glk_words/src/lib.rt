@@ -4,6 +4,7 @@
 mod command_line;
 mod commands;
 mod laws;
+mod symbol_order;
 mod usage;
 mod values;
 

@@ -1,0 +1,4 @@
+pub mod WritingLemmas
+pub mod SortedOnce
+pub mod ListingLemmas
+pub mod HexadecimalLemmas
