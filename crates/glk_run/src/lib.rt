@@ -8,8 +8,6 @@ mod cmd_nm;
 mod help;
 mod program;
 mod stdout;
-#[cfg(test)]
-mod tests;
 
 pub use glk_messages::{Outcome, report};
 pub use program::run;

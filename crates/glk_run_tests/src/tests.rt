@@ -1,6 +1,6 @@
 // A program of many functions, whose text no script holds.
-use crate::run;
 use glk_io::{Files, MemFiles, MemSink, MemSource};
+use glk_run::run;
 use std::alloc::Global;
 use std::process::Abort;
 use std::test::Fail;
