@@ -2,7 +2,6 @@
 use glk_io::{Files, MemFiles, MemSink, MemSource};
 use glk_run::run;
 use std::alloc::Global;
-use std::process::Abort;
 use std::test::Fail;
 use std::thread::Threads;
 
@@ -38,22 +37,34 @@ fn chain(alloc: Global) -> Result<String, Fail> {
     Ok(text)
 }
 
-// The status with which the program ends on these words.
-fn status_of<R: Threads + Sync>(
-    rt: &R,
-    alloc: Global,
-    words: &[&str],
-    files: &mut MemFiles,
-) -> Result<u8, Fail> {
+// The words as the program is given them.
+fn texts_of(alloc: Global, words: &[&str]) -> Result<Vec<String>, Fail> {
     let mut texts = Vec::new(alloc);
     for word in words {
         texts.push(String::from_str(alloc, word)?)?;
     }
-    let mut input = MemSource::new(Vec::new(alloc), Vec::new(alloc));
+    Ok(texts)
+}
+
+// Whether the program ends with status 0 on these words.
+fn is_done<R: Threads + Sync>(
+    rt: &R,
+    alloc: Global,
+    words: &[String],
+    files: &mut MemFiles,
+) -> Result<bool, Fail> {
     let mut out = MemSink::new(alloc, ROOM, Vec::new(alloc))?;
     let mut err = MemSink::new(alloc, ROOM, Vec::new(alloc))?;
-    let outcome = run(rt, alloc, &texts, files, &mut input, &mut out, &mut err);
-    Ok(outcome.status())
+    let mut input = MemSource::new(Vec::new(alloc), Vec::new(alloc));
+    let outcome = run(rt, alloc, words, files, &mut input, &mut out, &mut err);
+    Ok(outcome.status() == 0)
+}
+
+// Whether the text is made an archive, and that is linked.
+fn is_linked<R: Threads + Sync>(rt: &R, alloc: Global, files: &mut MemFiles) -> Result<bool, Fail> {
+    let mkobj = texts_of(alloc, &["mkobj", "-o", "m.a", "t.txt"])?;
+    let link = texts_of(alloc, &["link", "m.a"])?;
+    Ok(is_done(rt, alloc, mkobj.as_slice(), files)? && is_done(rt, alloc, link.as_slice(), files)?)
 }
 
 // Whether the bytes are at an offset.
@@ -64,27 +75,24 @@ fn is_at(image: &[u8], offset: usize, bytes: &[u8]) -> bool {
     }
 }
 
-// The image of a text.
-fn image_of<R: Threads + Sync + Abort>(rt: &R, alloc: Global, text: &str) -> Result<Vec<u8>, Fail> {
-    let mut files = MemFiles::new(Vec::new(alloc), Vec::new(alloc));
-    match files.write_file(alloc, "t.txt", text.as_bytes()) {
-        Ok(()) => (),
-        Err(_) => return Err(Fail::from("no file")),
-    }
-    let made = status_of(rt, alloc, &["mkobj", "-o", "m.a", "t.txt"], &mut files)?;
-    assert_eq!(rt; made, 0);
-    let linked = status_of(rt, alloc, &["link", "m.a"], &mut files)?;
-    assert_eq!(rt; linked, 0);
-    Ok(files.get("a.out").ok_or("no image")?.to_vec(alloc)?)
+// Whether these functions call the next one, and the last one none.
+fn is_chain(image: &[u8]) -> bool {
+    is_at(image, FIRST_AT, &CALLS_NEXT)
+        && is_at(image, SECOND_LAST_AT, &CALLS_NEXT)
+        && is_at(image, LAST_AT, &LAST)
 }
 
 #[test]
 fn a_chain_of_ten_thousand_functions_is_linked(rt: HostRuntime) -> Result<(), Fail> {
-    let alloc = rt.alloc();
-    let text = chain(alloc)?;
-    let image = image_of(&rt, alloc, &text)?;
-    assert!(rt; is_at(&image, FIRST_AT, &CALLS_NEXT));
-    assert!(rt; is_at(&image, SECOND_LAST_AT, &CALLS_NEXT));
-    assert!(rt; is_at(&image, LAST_AT, &LAST));
+    let text = chain(rt.alloc())?;
+    let mut files = MemFiles::new(Vec::new(rt.alloc()), Vec::new(rt.alloc()));
+    let is_written = files
+        .write_file(rt.alloc(), "t.txt", text.as_bytes())
+        .is_ok();
+    assert!(rt; is_written);
+    let linked = is_linked(&rt, rt.alloc(), &mut files)?;
+    assert!(rt; linked);
+    let image = files.get("a.out").ok_or("no image")?;
+    assert!(rt; is_chain(image));
     Ok(())
 }
