@@ -1,0 +1,6 @@
+pub mod TaskLemmas
+pub mod ListLemmas
+pub mod EdgeLemmas
+pub mod FirstLemmas
+pub mod RankLemmas
+pub mod OrderLemmas
