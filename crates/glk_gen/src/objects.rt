@@ -1,6 +1,6 @@
 // The objects of a world.
 ghost use Rattle.std.specs.Prelude.{◌≡◌, ◌+◌, ◌*◌, ◌<◌, ◌≤◌, ◌^◌, IfOk, length, map};
-ghost use Rattle.glk_gen.specs.Packages.{package_count, package_path, packages, functions, function_limit};
+ghost use Rattle.glk_gen.specs.Packages.{package_count, function_count, package_path, packages, functions, function_limit};
 ghost use Rattle.glk_gen.specs.Calls.{imports};
 ghost use Rattle.glk_gen.specs.Objects.{object_with, function_of, package_object, autolib_of, main_object};
 
@@ -27,6 +27,14 @@ fn paths(alloc: Global, packages: &[u32]) -> Result<Vec<Text>, OutOfMemory>
     Ok(paths)
 }
 
+// How many functions package k has, of a world of n functions.
+fn function_count(n: u32, k: u32) -> u32
+    requires { k < package_count n }
+    ensures { result ≡ function_count n k }
+{
+    PACKAGE_SIZE.min(n - PACKAGE_SIZE * k)
+}
+
 // The packages that the functions of package k call into.
 #[tactic(auto, unfolding(crate::specs::Calls::imports))]
 fn imports_of(alloc: Global, calls: &Calls, k: u32) -> Result<Vec<u32>, OutOfMemory>
@@ -35,7 +43,7 @@ fn imports_of(alloc: Global, calls: &Calls, k: u32) -> Result<Vec<u32>, OutOfMem
     ensures few { IfOk result (λ used. length used.items ≤ 128) }
 {
     let first = PACKAGE_SIZE * k;
-    let count = PACKAGE_SIZE.min(calls.functions - first);
+    let count = function_count(calls.functions, k);
     imports(
         alloc,
         k,
@@ -57,7 +65,7 @@ fn functions(
         ≡ map (function_of calls.now.seed calls.now.functions k) (functions calls.now.functions k)) }
 {
     let first = PACKAGE_SIZE * k;
-    let count = PACKAGE_SIZE.min(calls.functions - first);
+    let count = function_count(calls.functions, k);
     let mut defs = Vec::with_capacity(alloc, count as usize)?;
     for i in 0..count {
         defs.push(function(alloc, calls, k, imported, first + i)?)?;
