@@ -2,3 +2,4 @@ pub mod PollLaws
 pub mod RowBounds
 pub mod MarkLaws
 pub mod FindLaws
+pub mod OfferLaws

@@ -1,5 +1,5 @@
 -- Marks of keys, one step further.
-use Rattle.std.proofs.Common.{◌≡◌, ℕ, zero, suc, ◌+◌, ◌<◌, List, [], ◌∷◌, length, Bool, true, false, refl, sym, ap, ◌∙◌, arith}
+use Rattle.std.proofs.Common.{◌≡◌, ℕ, zero, suc, ◌+◌, List, [], ◌∷◌, length, Bool, true, false, refl, sym, ap, ◌∙◌, arith}
 use Rattle.std.specs.Prelude.{◌||◌, ◌&&◌, cond}
 use Rattle.std.specs.List.{list_any, filter, range_with_len}
 use Rattle.glk_obj.specs.Flags.{is_used_in_iface}

@@ -1,5 +1,5 @@
 -- What the poll of a program's rows answers, in words of the program.
-use Rattle.std.proofs.Common.{◌≡◌, ℕ, ◌<◌, List, Option, subst, sym, ap, ◌∙◌}
+use Rattle.std.proofs.Common.{◌≡◌, ℕ, ◌<◌, List, Option, subst, ap}
 use Rattle.glk_elect.specs.Answers.{IsLeastOf, IsLeastRankOf, IsGreatestOf, OfVotes}
 use Rattle.glk_elect.specs.Polls.{Poll}
 use Rattle.glk_elect.proofs.Gaining.{of_own_keys}

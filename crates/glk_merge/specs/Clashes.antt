@@ -1,5 +1,5 @@
 -- The code's clash as what contracts speak of.
-use Rattle.std.specs.Prelude.{◌≡◌, ℕ, Option, Some, ⊤}
+use Rattle.std.specs.Prelude.{◌≡◌, Option, Some, ⊤}
 use Rattle.std.specs.Option.{option_map}
 use Rattle.glk_base.specs.declared.fault.Fault.{Fault}
 use Rattle.glk_base.specs.declared.fault.Fault.TheVariants as fault

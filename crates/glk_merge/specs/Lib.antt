@@ -3,3 +3,4 @@ pub mod Clashes
 pub mod KeyTables
 pub mod Marks
 pub mod Accessors
+pub mod Offers

@@ -1,5 +1,5 @@
 -- Marks of keys, one by one.
-use Rattle.std.specs.Prelude.{◌≡◌, ℕ, ◌<◌, ◌==◌, ◌&&◌, ◌||◌, Bool, false, List, length, get_or, Option, Some, None}
+use Rattle.std.specs.Prelude.{ℕ, ◌==◌, ◌&&◌, Bool, false, Option, Some, None}
 use Rattle.std.specs.List.{list_any, range_with_len}
 use Rattle.glk_obj.specs.Flags.{is_used_in_iface}
 use Rattle.glk_obj.specs.Records.{ref_flags_at}

@@ -14,6 +14,7 @@ ghost use Rattle.glk_obj.specs.Views.{ref_view};
 use crate::find::find_row;
 use crate::key_tables::NO_DEFINITION;
 use crate::merged::Merged;
+use crate::offers::referent;
 use glk_base::{KeyId, ObjId, SymId};
 use glk_keys::{Referent, Target, made_number};
 use glk_obj::SymRef;
@@ -70,14 +71,14 @@ impl<'a> Merged<'a> {
         self.iface_flags[key.0 as usize]
     }
 
-    /// What a reference in an object means.
+    /// What a reference in an object means. It takes constant time.
     #[tactic(auto, unfolding(glk_keys::specs::Targets::target_of))]
     pub fn target(&self, o: ObjId, r: SymRef) -> Target
         requires { o.0 < length (objects_of self.now.program.world) }
         ensures value { result ≡ target_of self.now.program o.0 (ref_view r) }
         ensures key { IsTargetKey self.now.program result }
     {
-        match self.rows.referent(o, r) {
+        match referent(&self.rows, &self.offers, o, r) {
             Referent::Nothing => Target::Nothing,
             Referent::Row(id) => Target::Key(self.key(id)),
             Referent::Missing => Target::Missing {

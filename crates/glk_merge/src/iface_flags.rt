@@ -5,8 +5,10 @@ ghost use Rattle.glk_keys.specs.Interfaces.{is_marked_in};
 ghost use Rattle.glk_keys.specs.Rows.{row_at, row_count, object_at, is_definition};
 ghost use Rattle.glk_merge.specs.KeyTables.{AreKeyIds, AreIfaceFlags};
 ghost use Rattle.glk_merge.specs.Marks.{is_at, some_below, row_marks, object_marks};
+ghost use Rattle.glk_merge.specs.Offers.{AreOffers};
 ghost use Rattle.glk_obj.specs.Blocks.{count, ref_flags};
 
+use crate::offers::{Offers, referent};
 use glk_base::{ObjId, OutOfMemory, SymId};
 use glk_keys::{Referent, Rows};
 use glk_obj::Block;
@@ -42,7 +44,8 @@ fn marked_by_row(rows: &Rows<'_>, keys: &[u32], id: u32) -> Option<u32>
 
 // The key that a record of flags of an object marks.
 #[tactic(auto, unfolding(glk_keys::specs::Targets::target_of))]
-fn marked_by_flags(rows: &Rows<'_>, keys: &[u32], n: u32, i: u32) -> Option<u32>
+fn marked_by_flags(rows: &Rows<'_>, offers: &Offers, keys: &[u32], n: u32, i: u32) -> Option<u32>
+    requires offers { AreOffers rows.now offers.now.starts.items offers.now.list.items }
     requires keys { AreKeyIds rows.now keys.now }
     requires object { n < length (objects_of rows.now.world) }
     requires index { i < count (object_at rows.now n) ref_flags }
@@ -52,7 +55,7 @@ fn marked_by_flags(rows: &Rows<'_>, keys: &[u32], n: u32, i: u32) -> Option<u32>
     if !flags.is_used_in_iface() {
         return None;
     }
-    match rows.referent(ObjId(n), flags.target) {
+    match referent(rows, offers, ObjId(n), flags.target) {
         Referent::Row(id) => Some(keys[id.0 as usize]),
         Referent::Nothing => None,
         Referent::Missing => None,
@@ -71,7 +74,8 @@ fn mark_rows(flags: &mut [bool], rows: &Rows<'_>, keys: &[u32])
 }
 
 // Marks what the records of flags of one object mark.
-fn mark_object(flags: &mut [bool], rows: &Rows<'_>, keys: &[u32], n: u32)
+fn mark_object(flags: &mut [bool], rows: &Rows<'_>, offers: &Offers, keys: &[u32], n: u32)
+    requires offers { AreOffers rows.now offers.now.starts.items offers.now.list.items }
     requires keys { AreKeyIds rows.now keys.now }
     requires object { n < length (objects_of rows.now.world) }
     ensures { (k : ℕ) → k < length flags.old → get_or flags.new k false
@@ -79,30 +83,32 @@ fn mark_object(flags: &mut [bool], rows: &Rows<'_>, keys: &[u32], n: u32)
 {
     let count = rows.object(ObjId(n)).count(Block::RefFlags);
     for i in 0..count {
-        mark(flags, marked_by_flags(rows, keys, n, i));
+        mark(flags, marked_by_flags(rows, offers, keys, n, i));
     }
 }
 
 // Marks what the records of flags of all objects mark.
-fn mark_objects(flags: &mut [bool], rows: &Rows<'_>, keys: &[u32])
+fn mark_objects(flags: &mut [bool], rows: &Rows<'_>, offers: &Offers, keys: &[u32])
+    requires offers { AreOffers rows.now offers.now.starts.items offers.now.list.items }
     requires keys { AreKeyIds rows.now keys.now }
     ensures { (k : ℕ) → k < length flags.old → get_or flags.new k false
         ≡ (get_or flags.old k false || some_below (is_marked_in rows.now k) (length (objects_of rows.now.world))) }
 {
     for n in 0..rows.objects() {
-        mark_object(flags, rows, keys, n);
+        mark_object(flags, rows, offers, keys, n);
     }
 }
 
 // Marks what the definitions and the records of flags of all rows and objects mark, where nothing is marked yet.
-fn mark_all(flags: &mut [bool], rows: &Rows<'_>, keys: &[u32])
+fn mark_all(flags: &mut [bool], rows: &Rows<'_>, offers: &Offers, keys: &[u32])
+    requires offers { AreOffers rows.now offers.now.starts.items offers.now.list.items }
     requires keys { AreKeyIds rows.now keys.now }
     requires long { length flags.old ≡ row_count rows.now }
     requires none { (k : ℕ) → k < length flags.old → get_or flags.old k false ≡ false }
     ensures { AreIfaceFlags rows.now flags.new }
 {
     mark_rows(flags, rows, keys);
-    mark_objects(flags, rows, keys);
+    mark_objects(flags, rows, offers, keys);
 }
 
 // At each key whether it is a type that is turned into an interface. It takes one pass over the rows and one
@@ -110,13 +116,15 @@ fn mark_all(flags: &mut [bool], rows: &Rows<'_>, keys: &[u32])
 pub(crate) fn iface_flags(
     alloc: Global,
     rows: &Rows<'_>,
+    offers: &Offers,
     keys: &[u32],
 ) -> Result<Vec<bool>, OutOfMemory>
-    requires { AreKeyIds rows.now keys.now }
+    requires offers { AreOffers rows.now offers.now.starts.items offers.now.list.items }
+    requires keys { AreKeyIds rows.now keys.now }
     ensures { IfOk result (λ flags. AreIfaceFlags rows.now flags.items) }
 {
     let mut flags = Vec::new(alloc);
     flags.resize(rows.count() as usize, false)?;
-    mark_all(flags.as_mut_slice(), rows, keys);
+    mark_all(flags.as_mut_slice(), rows, offers, keys);
     Ok(flags)
 }

@@ -10,6 +10,7 @@ mod iface_flags;
 mod key_tables;
 mod merged;
 mod merging;
+mod offers;
 
 pub use clash::Clash;
 pub use merged::Merged;

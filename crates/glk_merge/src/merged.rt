@@ -1,4 +1,5 @@
 // A merged program.
+use crate::offers::Offers;
 use glk_elect::Polled;
 use glk_keys::Rows;
 use std::marker::Model;
@@ -9,6 +10,7 @@ use std::marker::Model;
 #[derive(Drop)]
 pub struct Merged<'a> {
     pub(crate) rows: Rows<'a>,
+    pub(crate) offers: Offers,
     pub(crate) polled: Polled,
     // the key of each row
     pub(crate) keys: Vec<u32>,
@@ -20,6 +22,7 @@ pub struct Merged<'a> {
 
 impl<'a> Model for Merged<'a> {
     ghost use Rattle.glk_merge.specs.Mergings.{Merging, IsPollOf};
+    ghost use Rattle.glk_merge.specs.Offers.{AreOffers};
     ghost use Rattle.glk_merge.specs.KeyTables.{AreKeyTables};
 
     ghost Value = { Merging };
@@ -27,5 +30,7 @@ impl<'a> Model for Merged<'a> {
     ghost view = { λ m. record { program = m.rows; poll = m.polled } };
 
     ghost invariant = { λ m.
-        IsPollOf m.rows m.polled × AreKeyTables m.rows m.keys.items m.chosen.items m.iface_flags.items };
+        IsPollOf m.rows m.polled
+        × AreOffers m.rows m.offers.starts.items m.offers.list.items
+        × AreKeyTables m.rows m.keys.items m.chosen.items m.iface_flags.items };
 }

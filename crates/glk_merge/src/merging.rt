@@ -11,6 +11,7 @@ use crate::clash::{Clash, ClashRows, first_clash};
 use crate::iface_flags::iface_flags;
 use crate::key_tables::{choices, key_ids};
 use crate::merged::Merged;
+use crate::offers::offers_of;
 use glk_arena::{Builtins, Loaded};
 use glk_base::{Fault, OutOfMemory, Text};
 use glk_elect::{Polled, elect};
@@ -37,19 +38,23 @@ fn named(alloc: Global, rows: &Rows<'_>, clash: ClashRows) -> Result<Clash, OutO
 // The merged program of rows whose keys were polled, and none of which clash.
 fn with_tables<'a>(
     alloc: Global,
+    loaded: &Loaded,
     rows: Rows<'a>,
     polled: Polled,
     keys: Vec<u32>,
 ) -> Result<Merged<'a>, OutOfMemory>
+    requires world { loaded.now ≡ rows.world }
     requires polled { IsPollOf rows polled }
     requires keys { AreKeyIds rows keys.items }
     ensures program { IfOk result (λ m. m.program ≡ rows.entry) }
     ensures poll { IfOk result (λ m. m.poll ≡ polled) }
 {
     let chosen = choices(alloc, &rows, &polled, keys.as_slice())?;
-    let iface_flags = iface_flags(alloc, &rows, keys.as_slice())?;
+    let offers = offers_of(alloc, &rows, loaded)?;
+    let iface_flags = iface_flags(alloc, &rows, &offers, keys.as_slice())?;
     Ok(Merged {
         rows,
+        offers,
         polled,
         keys,
         chosen,
@@ -88,7 +93,7 @@ pub fn merge<'a, G: Gate, R: Threads + Sync>(
         Some(clash) => Err(Fault::Bad(named(alloc, &rows, clash)?)),
         None => {
             let keys = key_ids(alloc, &rows, &polled)?;
-            Ok(with_tables(alloc, rows, polled, keys)?)
+            Ok(with_tables(alloc, loaded, rows, polled, keys)?)
         }
     }
 }

@@ -1,4 +1,4 @@
-use Rattle.std.proofs.Common.{◌≡◌, ℕ, ◌^◌, ◌<◌, ◌⊎◌, inl, inr, Some, None, sym, ap, ◌∙◌, subst, arith}
+use Rattle.std.proofs.Common.{◌≡◌, ℕ, ◌^◌, ◌<◌, inl, inr, Some, None, sym, subst, arith}
 use Rattle.glk_elect.specs.Answers.{IsLeastRankOf}
 use Rattle.glk_keys.proofs.Clashing.{clash_none, clash_elsewhere, clash_begins_not, clash_begins_none}
 use Rattle.glk_keys.proofs.Electing.{least_of, least_strong_of, none_at_all}

@@ -1,4 +1,4 @@
-use Rattle.std.proofs.Common.{◌≡◌, ℕ, ◌<◌, ◌≤◌, Some, None, sym, ap, ◌∙◌, subst, arith}
+use Rattle.std.proofs.Common.{◌≡◌, ℕ, ◌≤◌, Some, None, sym, ◌∙◌, subst, arith}
 use Rattle.glk_keys.proofs.Clashing.{clash_alone, clash_two, clash_made, clash_begins, clash_begins_none}
 use Rattle.glk_keys.proofs.Electing.{greatest_of, none_strong}
 use Rattle.glk_keys.specs.Choices.{IsGreatestStrong}

@@ -1,4 +1,4 @@
-use Rattle.std.proofs.Common.{◌≡◌, ℕ, ◌<◌, sym, arith}
+use Rattle.std.proofs.Common.{◌<◌, sym, arith}
 use Rattle.glk_keys.proofs.Clashing.{first_clash_is, no_clash}
 use Rattle.glk_keys.specs.Rows.{row_count}
 use Rattle.glk_merge.specs.Clashes.{clash_view}

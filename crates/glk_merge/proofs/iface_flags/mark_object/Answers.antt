@@ -1,4 +1,4 @@
-use Rattle.std.proofs.Common.{◌<◌, length, false, get_or, arith, ap, ◌∙◌, ◌≡◌}
+use Rattle.std.proofs.Common.{◌<◌, length, false, get_or, arith, ap, ◌∙◌}
 use Rattle.std.specs.Prelude.{◌||◌}
 use Rattle.glk_merge.proofs.MarkLaws.{mark_more}
 use Rattle.glk_merge.specs.Marks.{object_marks}

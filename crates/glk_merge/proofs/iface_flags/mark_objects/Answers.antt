@@ -1,5 +1,4 @@
-use Rattle.std.proofs.Common.{◌<◌, length, false, get_or, arith, ap, ◌∙◌, ◌≡◌}
-use Rattle.std.specs.Prelude.{◌||◌}
+use Rattle.std.proofs.Common.{◌<◌, length, false, get_or, arith}
 use Rattle.glk_merge.proofs.MarkLaws.{mark_more}
 use Rattle.glk_keys.specs.Interfaces.{is_marked_in}
 use Rattle.glk_merge.proofs.iface_flags.mark_objects.Goals as goal

@@ -1,4 +1,4 @@
-use Rattle.std.proofs.Common.{◌≡◌, ℕ, ◌<◌, Option, Some, None, sym, ap, ◌∙◌, subst}
+use Rattle.std.proofs.Common.{◌≡◌, ℕ, Option, Some, None, sym, ap, ◌∙◌, subst}
 use Rattle.glk_keys.proofs.Electing.{chosen_by_rank}
 use Rattle.glk_keys.specs.Definitions.{object_definition}
 use Rattle.glk_keys.specs.Keys.{key_id}

@@ -1,4 +1,4 @@
-use Rattle.std.proofs.Common.{◌≡◌, ℕ, Some, sym, ap, ◌∙◌}
+use Rattle.std.proofs.Common.{◌≡◌, Some, sym, ap, ◌∙◌}
 use Rattle.glk_keys.specs.Keys.{key_id, find_key}
 use Rattle.glk_keys.specs.Programs.{Program}
 use Rattle.glk_merge.proofs.FindLaws.{found_by}
