@@ -29,7 +29,7 @@ contains_cases c cs x (zero, low, is) = inl is
 contains_cases c cs x (suc k, low, is) = inr (k, omega arith, is)
 
 module _ (start : ℕ) (bytes : List ℕ) (c : Content) (room : HasRoom c) (from : start ≤ c.at) (to : end_of c ≤ start + length bytes) where
-  abbrev here : ℕ
+  abbrev pub here : ℕ
   here = c.at - start
 
   long_content : length (content_bytes c) ≡ c.size
@@ -43,7 +43,7 @@ module _ (start : ℕ) (bytes : List ℕ) (c : Content) (room : HasRoom c) (from
       let e : end_of c - start ≡ here + length (content_bytes c) = (let l = long_content in omega arith) in
       ap (λ n. take here bytes ++ content_bytes c ++ drop n bytes) e
 
-  put_long : length (with_content start bytes c) ≡ length bytes
+  pub put_long : length (with_content start bytes c) ≡ length bytes
   put_long = ap length as_spliced ∙ length-spliced bytes here (content_bytes c) room_here
 
   put_inside : (i p : ℕ) → i < c.size → start + p ≡ c.at + i → get_or (with_content start bytes c) p 0 ≡ get_or (content_bytes c) i 0

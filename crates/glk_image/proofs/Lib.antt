@@ -1,3 +1,5 @@
 pub mod ContentLemmas
 pub mod PatchedImages
 pub mod WrittenBytes
+pub mod RowLemmas
+pub mod FillLemmas

@@ -1,0 +1,4 @@
+pub mod Boxing
+pub mod PlacingSteps
+pub mod SectionSteps
+pub mod InOrder
