@@ -1,1 +1,3 @@
 pub mod RelocationWalks
+pub mod OffsetLemmas
+pub mod TargetLists

@@ -1,5 +1,6 @@
 pub mod Symbols
 pub mod References
+pub mod Offsets
 pub mod Readings
 pub mod Triples
 pub mod Views

@@ -28,7 +28,12 @@ target_at relocs i = option_and_then (λ reloc. reloc.target) (slice_get relocs 
 -- the triple at relocations i to i + 2: its targets are a method's type, and its two functions
 abbrev pub triple_at : List Relocation → ℕ → MethodTriple
 triple_at relocs i =
-    record { index = i; first = target_at relocs i; second = target_at relocs (i + 1); third = target_at relocs (i + 2) }
+    record {
+      index = i;
+      first = target_at relocs i;
+      second = target_at relocs (i + 1);
+      third = target_at relocs (i + 2);
+    }
 
 -- the triple that begins at relocation i, if one does
 unfoldable pub triple_from : List Relocation → ℕ → Option MethodTriple

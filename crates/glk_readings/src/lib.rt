@@ -7,6 +7,7 @@
 
 mod interfaces;
 mod methods;
+mod offsets;
 mod references;
 mod strings;
 mod symbols;
@@ -17,6 +18,7 @@ mod unreadable;
 
 pub use interfaces::{InterfaceMethod, imethod_read, itab_type_read};
 pub use methods::{method_name_read, methodoff_offsets, methods_read};
+pub use offsets::{OffsetIndex, Relocations};
 pub use references::{defined_read, name_read, target_read};
 pub use strings::type_string_read;
 pub use symbols::{Relocation, Symbols, TargetSymbol};

@@ -100,7 +100,8 @@ fn name_at<'a, S: Symbols>(
     offset: u32,
 ) -> Result<&'a [u8], Unreadable>
     requires { target < (S.table symbols.now).keys }
-    ensures { name_view result ≡ read_at holder name_rule offset (name_in ((S.table symbols.now).content target) addend) }
+    ensures { name_view result
+        ≡ read_at holder name_rule offset (name_in ((S.table symbols.now).content target) addend) }
 {
     match name(symbols.data(target), addend) {
         Some(found) => Ok(found),

@@ -1,10 +1,10 @@
 // A type whose data hold the name of its method.
-ghost use Rattle.std.specs.Prelude.{◌≡◌, ◌<◌, ◌^◌, length};
+ghost use Rattle.std.specs.Prelude.{◌≡◌, ◌<◌, ◌^◌, length, map};
 ghost use Rattle.glk_readings.specs.Sample.{sample_reloc as sample_reloc_of, sample_table};
 
 use super::{
-    MethodTriple, Relocation, Symbols, TargetSymbol, method_triples, methodoff_offsets,
-    type_string_read,
+    MethodTriple, OffsetIndex, Relocation, Relocations, Symbols, TargetSymbol, method_triples,
+    methodoff_offsets, type_string_read,
 };
 use std::test::Fail;
 
@@ -43,6 +43,18 @@ impl Symbols for Sample {
             .iter()
             .map(|at| sample_reloc(*at))
             .find(|reloc| reloc.offset == offset && reloc.target.is_some())
+    }
+}
+
+impl Relocations for Sample {
+    ghost list = { λ s. map sample_reloc_of s.offsets.items };
+
+    fn count(&self) -> u32 {
+        self.offsets.len() as u32
+    }
+
+    fn reloc(&self, i: u32) -> Relocation {
+        sample_reloc(self.offsets[i as usize])
     }
 }
 
@@ -98,5 +110,17 @@ fn a_type_with_a_method(rt: HostRuntime) -> Result<(), Fail> {
     };
     assert_eq!(rt; triples.as_slice(), [triple].as_slice());
     assert_eq!(rt; type_string_read(&sample, 0), Ok(b"Run".as_slice()));
+    Ok(())
+}
+
+#[test]
+fn offsets_that_fall(rt: HostRuntime) -> Result<(), Fail> {
+    let alloc = rt.alloc();
+    let data = Vec::new(alloc);
+    let offsets = vec![in alloc; 64, 40, 72]?;
+    let sample = Sample { data, offsets };
+    let index = OffsetIndex::new(alloc, &sample)?;
+    assert_eq!(rt; index.find(&sample, 40), Some(sample_reloc(40)));
+    assert_eq!(rt; index.find(&sample, 72), None);
     Ok(())
 }

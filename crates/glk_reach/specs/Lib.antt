@@ -1,0 +1,11 @@
+pub mod RelocKinds
+pub mod Chosen
+pub mod Effects
+pub mod Graphs
+pub mod KeptLists
+pub mod KindFaults
+pub mod RelocFaults
+pub mod Reasons
+pub mod Faults
+pub mod Reached
+pub mod Laws
