@@ -1,4 +1,6 @@
 // An image with the tables of functions.
+ghost use Rattle.std.specs.Prelude.{◌<◌, ◌^◌, length, IfOk};
+
 use glk_base::{Seq, Text};
 use glk_elf::{ElfParts, SectionBytes, assign_addresses, write_elf};
 use std::alloc::Global;
@@ -14,7 +16,12 @@ pub(crate) fn image_of(
     rodata: &[u8],
     gopclntab: &[u8],
     go_module: &[u8],
-) -> Result<Vec<u8>, Fail> {
+) -> Result<Vec<u8>, Fail>
+    ensures { IfOk result (λ image. length image.items < 2 ^ 32) }
+{
+    assert!(rt; rodata.len() < 0x1000);
+    assert!(rt; gopclntab.len() < 0x1000);
+    assert!(rt; go_module.len() < 0x1000);
     let sizes = [
         16,
         rodata.len() as u64,

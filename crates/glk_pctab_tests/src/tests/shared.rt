@@ -27,42 +27,58 @@ const SECTION: &[u8; 248] = b"\xf1\xff\xff\xff\x00\x00\x01\x08\
 // The inline tree of the second function: the first one, called at its start.
 const TREE: &[u8; 16] = b"\0\0\0\0\0\0\0\0\xff\xff\xff\xff\0\0\0\0";
 
+// The files of the two objects.
+const UNITS: &[&[&[u8]]] = &[&[b"a.go", b"b.go"], &[b"a.go"]];
+
+// The inlined call of the second function.
+const CALLS: &[InlinedCall<'static>] = &[InlinedCall {
+    name: b"f",
+    parent: -1,
+    start_line: 0,
+    id: 0,
+}];
+
+const FIRST: Function<'static> = Function {
+    name: b"f",
+    pcsp: &[],
+    pcfile: ZERO,
+    pcline: LINE,
+    pcinline: &[],
+    inlined: &[],
+    pcdata: &[],
+    funcdata: &[],
+    unit: 0,
+    start: 0,
+    args: 0,
+    deferreturn: 0,
+    start_line: 0,
+    id: 0,
+    flag: 0,
+};
+
+const SECOND: Function<'static> = Function {
+    name: b"g",
+    pcsp: &[],
+    pcfile: ZERO,
+    pcline: LINE,
+    pcinline: ZERO,
+    inlined: CALLS,
+    pcdata: &[],
+    funcdata: &[],
+    unit: 1,
+    start: 16,
+    args: 0,
+    deferreturn: 0,
+    start_line: 0,
+    id: 0,
+    flag: 0,
+};
+
 #[test]
 fn the_section_of_functions_that_share(rt: HostRuntime) -> Result<(), Fail> {
-    let first = Function {
-        name: b"f",
-        pcsp: &[],
-        pcfile: ZERO,
-        pcline: LINE,
-        pcinline: &[],
-        inlined: &[],
-        pcdata: &[],
-        funcdata: &[],
-        unit: 0,
-        start: 0,
-        args: 0,
-        deferreturn: 0,
-        start_line: 0,
-        id: 0,
-        flag: 0,
-    };
-    let call = InlinedCall {
-        name: b"f",
-        parent: -1,
-        start_line: 0,
-        id: 0,
-    };
-    let second = Function {
-        name: b"g",
-        pcinline: ZERO,
-        inlined: &[call],
-        unit: 1,
-        start: 16,
-        ..first
-    };
     let tables = Pclntab {
-        functions: &[first, second],
-        units: &[&[b"a.go", b"b.go"], &[b"a.go"]],
+        functions: &[FIRST, SECOND],
+        units: UNITS,
         text: 0x401000,
         text_size: 32,
         trees: 0,
