@@ -14,3 +14,4 @@ pub mod ImportLemmas
 pub mod WaveSteps
 pub mod SomeLoad
 pub mod SomeConfig
+mod OwnPaths

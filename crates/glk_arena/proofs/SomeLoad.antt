@@ -61,15 +61,18 @@ wave_some inputs files earlier paths =
     (λ wave k. then_some wave (finds_some wave (found_or_clear (fingerprint_refusal earlier wave)))
     (λ same m. finds_some same (found_or_clear (missing_refusal inputs.listed earlier same)))))
 
--- as many packages as paths
-wave_long : (inputs : LoadInputs) (files : Contents) (earlier : List Package) (paths : List (List ℕ)) (wave : List Package) → Wave inputs files earlier paths (Ok wave) → length wave ≡ length paths
-wave_long inputs files earlier paths wave w =
+-- the packages of a wave have its paths
+pub wave_paths : (inputs : LoadInputs) (files : Contents) (earlier : List Package) (paths : List (List ℕ)) (wave : List Package) → Wave inputs files earlier paths (Ok wave) → paths_of wave ≡ paths
+wave_paths inputs files earlier paths wave w =
     let read = then_given paths wave w in
     let made = then_given read.0 wave read.2 in
     let compared = then_given made.0 wave made.2 in
     let same : made.0 ≡ wave = finds_given made.0 compared.0 compared.1 ∙ finds_given compared.0 wave compared.2 in
     let own : paths_of made.0 ≡ paths = formats_paths inputs (rules_so_far earlier) paths read.0 made.0 made.1 in
-    ap length (sym same) ∙ sym (length-map made.0 (λ p. p.path)) ∙ ap length own
+    ap paths_of (sym same) ∙ own
+
+wave_long : (inputs : LoadInputs) (files : Contents) (earlier : List Package) (paths : List (List ℕ)) (wave : List Package) → Wave inputs files earlier paths (Ok wave) → length wave ≡ length paths
+wave_long inputs files earlier paths wave w = sym (length-map wave (λ p. p.path)) ∙ ap length (wave_paths inputs files earlier paths wave w)
 
 -- `left` more packages may be loaded
 loads_some : (left : ℕ) (inputs : LoadInputs) (files : Contents) (earlier : List Package) (paths : List (List ℕ))

@@ -1,6 +1,6 @@
 -- The waves in which packages are loaded, and the first refusal on the way: lists alone.
-use Rattle.std.specs.Prelude.{◌≡◌, ◌+◌, ◌-◌, ◌<◌, ◌≤◌, ◌++◌, ◌||◌, ◌&&◌, ◌⊎◌, not, ℕ, Bool, List, [], ◌∷◌, map, length, codes, Option, Some, Result, Ok, Err, ⊤, if◌then◌else◌}
-use Rattle.std.specs.List.{find}
+use Rattle.std.specs.Prelude.{◌≡◌, ◌+◌, ◌-◌, ◌<◌, ◌≤◌, ◌++◌, ◌||◌, ◌&&◌, ◌⊎◌, not, ℕ, Bool, List, [], ◌∷◌, map, length, get_or, codes, Option, Some, Result, Ok, Err, ⊤, if◌then◌else◌}
+use Rattle.std.specs.List.{find, AllPairs}
 use Rattle.std.specs.Option.{unwrap_or, is_none, option_map}
 use Rattle.std.specs.Str.{bytes_eq}
 use Rattle.glk_cause.specs.declared.cause.Cause.{Cause}
@@ -131,6 +131,16 @@ IsOneLoad =
 -- Known files load to a list of packages, or have a first refusal: no wave is without end, since packages are few.
 abbrev pub IsSomeLoad : Type 0
 IsSomeLoad = (inputs : LoadInputs) (files : Contents) → (answer : Result (List Package) Cause) × IsLoad inputs files answer
+
+-- No two of these paths are one, and the first is the main file's.
+pub record AreOwnPaths (paths : List (List ℕ)) : Type 0 where
+  pub some : 0 < length paths
+  pub main : get_or paths 0 [] ≡ main_package
+  pub differ : AllPairs (λ one other. one ≡ other → ⊥) paths
+
+-- So are the paths of all that is loaded.
+abbrev pub HasOwnPaths : Type 0
+HasOwnPaths = (inputs : LoadInputs) (files : Contents) (world : List Package) → IsLoad inputs files (Ok world) → AreOwnPaths (paths_of world)
 
 -- a file that loading may read: the main file, or one that the configuration lists
 abbrev pub IsPackagePath : List ℕ → (List ℕ → Option (List ℕ)) → List ℕ → Type 0

@@ -1,7 +1,7 @@
 // What holds of all configurations and of all worlds: laws of the definitions, which are proved with
 // these functions and cost nothing when they run.
 ghost use Rattle.glk_arena.specs.Config.{IsOneFile, IsSomeConfig};
-ghost use Rattle.glk_arena.specs.Waves.{IsOneLoad, IsSomeLoad};
+ghost use Rattle.glk_arena.specs.Waves.{IsOneLoad, IsSomeLoad, HasOwnPaths};
 
 /// The lines of a configuration give a path one file, or none.
 pub fn one_file()
@@ -22,4 +22,9 @@ pub fn some_config()
 /// and each wave has one at least.
 pub fn some_load()
     ensures { IsSomeLoad }
+{}
+
+/// No two of the packages that known files load to have one path, and the first is the main file's.
+pub fn own_paths()
+    ensures { HasOwnPaths }
 {}

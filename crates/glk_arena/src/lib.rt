@@ -16,6 +16,6 @@ mod waves;
 
 pub use builtins::{Builtin, Builtins};
 pub use config::Config;
-pub use laws::{one_file, one_load, some_config, some_load};
+pub use laws::{one_file, one_load, own_paths, some_config, some_load};
 pub use loaded::Loaded;
 pub use waves::load_waves;

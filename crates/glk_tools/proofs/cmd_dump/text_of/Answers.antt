@@ -1,11 +1,10 @@
-use Rattle.std.proofs.Common.{◌≡◌, ℕ, List, Vec, Err, subst}
+use Rattle.std.proofs.Common.{ℕ, List, Vec, Err, subst}
 use Rattle.std.specs.declared.alloc.Global.{Global}
 use Rattle.glk_base.specs.declared.fault.Fault.{Fault}
 use Rattle.glk_cause.specs.Chain.{Answers}
 use Rattle.glk_package.specs.declared.refusal.PackageBad.{PackageBad}
 use Rattle.glk_package.specs.ObjectRules.{any_rules}
 use Rattle.glk_package.specs.Package.{IsRefusalOf}
-use Rattle.glk_package.specs.PackageRefusal.{IsFaultOfFile}
 use Rattle.glk_tools.specs.Dump.{IsTextOf}
 use Rattle.glk_tools.proofs.DumpSteps.{refused}
 use Rattle.glk_tools.proofs.cmd_dump.text_of.Goals as goal
