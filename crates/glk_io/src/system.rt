@@ -1,8 +1,9 @@
 // The system's files, readers and writers.
-ghost use Rattle.std.specs.Prelude.{◌≡◌, ◌≤◌, ◌<◌, List, ℕ, None, IfSome, IfOk, OnOk, length};
+ghost use Rattle.std.specs.Prelude.{◌≡◌, ◌≤◌, ◌<◌, List, ℕ, None, IfSome, IfOk, OnOk, length, ⊤};
 ghost use Rattle.std.specs.Io.{ReadsAtMost, WritesAtMost};
 ghost use Rattle.std.specs.Io.KnownBytes.{Appends, ReadConsumes, WriteAppends};
 ghost use Rattle.glk_io.specs.System.{unknown_files};
+ghost use Rattle.glk_io.specs.declared.system.Output.TheVariants as outputs;
 ghost use Rattle.glk_io.specs.Counts.{count_after_call};
 ghost use Rattle.glk_io.specs.Files.{ReadsFile, WritesFile, ReadsUpTo, count_after_read, count_after_write};
 ghost use Rattle.glk_io.specs.Streams.{HasCause};
@@ -172,21 +173,41 @@ const READ_BITS: u32 = 0o444;
 
 const READ_TO_RUN: u32 = 2;
 
-// Lets those who can read the file run it. What is no regular file is left alone.
-fn let_run<F: OpenFile>(file: &F) -> io::Result<()> {
-    let metadata = file.metadata()?;
-    let mode = metadata.mode() | ((metadata.mode() & READ_BITS) >> READ_TO_RUN);
-    if !metadata.is_file() || mode == metadata.mode() {
-        return Ok(());
-    }
-    file.set_permissions(fs::Permissions::from_mode(mode))
+// A file that is open for writing, and may be a program.
+trait Runnable {
+    // Those who can read the file can run it.
+    ghost can_run: { Self → Type 0 };
+
+    // Lets those who can read the file run it.
+    fn let_run(&self) -> io::Result<()>
+        ensures { OnOk result (can_run self.now) };
 }
 
-// Writes the bytes whole.
-fn write_whole<W: Write>(writer: &mut W, bytes: &[u8]) -> io::Result<()>
-    ensures { OnOk result (Appends (W.contents writer.old) (W.contents writer.new) bytes.now) }
+impl<F: OpenFile> Runnable for F {
+    // No clause speaks of the system's permissions.
+    ghost can_run = { λ _. ⊤ };
+
+    // What is no regular file is left alone.
+    fn let_run(&self) -> io::Result<()> {
+        let metadata = self.metadata()?;
+        let mode = metadata.mode() | ((metadata.mode() & READ_BITS) >> READ_TO_RUN);
+        if !metadata.is_file() || mode == metadata.mode() {
+            return Ok(());
+        }
+        self.set_permissions(fs::Permissions::from_mode(mode))
+    }
+}
+
+// Writes the bytes whole, and lets a program be run.
+fn write_output<W: Write + Runnable>(writer: &mut W, bytes: &[u8], output: Output) -> io::Result<()>
+    ensures whole { OnOk result (Appends (W.contents writer.old) (W.contents writer.new) bytes.now) }
+    ensures runs { output ≡ outputs.Program → OnOk result (W.can_run writer.new) }
 {
-    writer.write_all(bytes)
+    writer.write_all(bytes)?;
+    match output {
+        Output::Plain => Ok(()),
+        Output::Program => writer.let_run(),
+    }
 }
 
 // Makes the bytes the file at the path. A file that is there keeps its permissions, so a program
@@ -196,11 +217,7 @@ fn write_bytes<R: SystemFiles>(rt: &R, path: &str, bytes: &[u8], output: Output)
     options.write(true).create(true).truncate(true);
     options.mode(output.mode());
     let mut file = options.open(rt, path)?;
-    write_whole(&mut file, bytes)?;
-    if output == Output::Program {
-        let_run(&file)?;
-    }
-    Ok(())
+    write_output(&mut file, bytes, output)
 }
 
 // The bytes that a reader has left, at most `max` of them; `size` is about how many there are.
