@@ -21,7 +21,7 @@ pub enum Line {
 }
 
 /// Carries out a line.
-pub fn carry<R: Runtime + AllocGlobal + Threads + Sync>(
+pub(crate) fn carry<R: Runtime + AllocGlobal + Threads + Sync>(
     rt: &R,
     alloc: Global,
     stage: &mut Stage,
@@ -33,31 +33,49 @@ pub fn carry<R: Runtime + AllocGlobal + Threads + Sync>(
     }
     let (verb, text) = spelled.split_once(' ').unwrap_or((spelled, ""));
     if verb == "stderr" || verb == "stdout" {
-        let ended = last(alloc, stage)?;
-        let stream = if verb == "stderr" {
-            &mut ended.err
-        } else {
-            &mut ended.out
-        };
-        wrote(alloc, stream, format!(in alloc; "{text}\n")?.as_bytes())?;
+        check_stream(alloc, stage, verb, text)?;
         return Ok(Line::Check);
     }
     let words = words_of(alloc, text)?;
+    carry_words(rt, alloc, stage, verb, words.as_slice(), line)
+}
+
+// The last run wrote this line to a stream, and nothing else.
+fn check_stream(alloc: Global, stage: &mut Stage, name: &str, text: &str) -> Result<(), Stop> {
+    let ended = last(alloc, stage)?;
+    let stream = if name == "stderr" {
+        &mut ended.err
+    } else {
+        &mut ended.out
+    };
+    let wanted = format!(in alloc; "{text}\n")?;
+    wrote(alloc, stream, wanted.as_bytes())
+}
+
+// Carries out a line of words.
+fn carry_words<R: Runtime + AllocGlobal + Threads + Sync>(
+    rt: &R,
+    alloc: Global,
+    stage: &mut Stage,
+    verb: &str,
+    words: &[Word],
+    line: u32,
+) -> Result<Line, Stop> {
     match verb {
         "golink" => {
-            golink(rt, alloc, stage, words.as_slice(), line)?;
+            golink(rt, alloc, stage, words, line)?;
             Ok(Line::Run)
         }
         "load" => {
-            load(rt, alloc, stage, words.as_slice())?;
+            load(rt, alloc, stage, words)?;
             Ok(Line::Other)
         }
         "file" | "stdin" | "fail" | "room" => {
-            prepare(alloc, stage, verb, words.as_slice())?;
+            prepare(alloc, stage, verb, words)?;
             Ok(Line::Other)
         }
         _ => {
-            check(alloc, stage, verb, words.as_slice())?;
+            check(alloc, stage, verb, words)?;
             Ok(Line::Check)
         }
     }

@@ -13,7 +13,7 @@ mod stage;
 mod stop;
 mod words;
 
-use crate::script::{Counts, Failed, carry_out};
+use crate::script::{Counts, Failed, NO_COUNTS, carry_out};
 use crate::stop::Stop;
 use std::alloc::Global;
 use std::process::ExitCode;
@@ -28,34 +28,55 @@ fn main(rt: HostRuntime) -> io::Result<ExitCode> {
 
 // Runs all scripts, and answers whether all did what they must.
 fn all<R: Runtime + AllocGlobal + Threads + Sync>(rt: &R, alloc: Global) -> io::Result<bool> {
+    let names = script_names(rt, alloc)?;
     let mut are_good = true;
-    let mut total = Counts { runs: 0, checks: 0 };
-    let names = names(rt, alloc)?;
+    let mut total = NO_COUNTS;
     for name in names.iter() {
-        let text = fs::read_to_string(rt, name.as_str())?;
-        match carry_out(rt, alloc, name.as_str(), text.as_str()) {
-            Ok(counts) => {
-                let (runs, checks) = (counts.runs, counts.checks);
-                println!(rt; "{name}: {runs} runs, {checks} checks")?;
-                total.runs = total.runs.saturating_add(runs);
-                total.checks = total.checks.saturating_add(checks);
-                are_good &= !is_bad(name.as_str());
-            }
-            Err(failed) if is_bad(name.as_str()) => {
-                let report = report(alloc, name.as_str(), text.as_str(), &failed)?;
-                println!(rt; "{report}")?;
-            }
-            Err(failed) => {
-                let report = report(alloc, name.as_str(), text.as_str(), &failed)?;
-                eprintln!(rt; "{report}")?;
-                are_good = false;
-            }
-        }
+        let (counts, is_good) = one(rt, alloc, name.as_str())?;
+        total.runs = total.runs.saturating_add(counts.runs);
+        total.checks = total.checks.saturating_add(counts.checks);
+        are_good &= is_good;
     }
     let scripts = names.len();
     let (runs, checks) = (total.runs, total.checks);
     println!(rt; "{scripts} scripts, {runs} runs, {checks} checks")?;
     Ok(are_good)
+}
+
+// Runs a script, and answers the runs and checks of one that passes, and whether it did what it must.
+fn one<R: Runtime + AllocGlobal + Threads + Sync>(
+    rt: &R,
+    alloc: Global,
+    name: &str,
+) -> io::Result<(Counts, bool)> {
+    let text = fs::read_to_string(rt, name)?;
+    match carry_out(rt, alloc, name, text.as_str()) {
+        Ok(counts) => {
+            let (runs, checks) = (counts.runs, counts.checks);
+            println!(rt; "{name}: {runs} runs, {checks} checks")?;
+            Ok((counts, !is_bad(name)))
+        }
+        Err(failed) => {
+            print_failed(rt, alloc, name, text.as_str(), &failed)?;
+            Ok((NO_COUNTS, is_bad(name)))
+        }
+    }
+}
+
+// Prints the line that fails: where it must, to standard output.
+fn print_failed<R: Runtime + AllocGlobal>(
+    rt: &R,
+    alloc: Global,
+    name: &str,
+    text: &str,
+    failed: &Failed,
+) -> io::Result<()> {
+    let report = report(alloc, name, text, failed)?;
+    if is_bad(name) {
+        println!(rt; "{report}")
+    } else {
+        eprintln!(rt; "{report}")
+    }
 }
 
 // Whether a file is a script.
@@ -69,26 +90,44 @@ fn is_bad(name: &str) -> bool {
 }
 
 // The scripts that the words name, else those of this folder, in order.
-fn names<R: Runtime + AllocGlobal>(rt: &R, alloc: Global) -> io::Result<Vec<String>> {
-    let mut names = Vec::new(alloc);
-    let mut are_named = false;
-    for name in env::args(rt)?.skip(1) {
-        are_named = true;
-        if is_script(name.as_str()) {
-            names.push(name)?;
-        }
-    }
-    if !are_named {
-        for entry in fs::read_dir(rt, ".")? {
-            let entry = entry?;
-            let name = entry.file_name();
-            if is_script(name) {
-                names.push(String::from_str(alloc, name)?)?;
-            }
-        }
-    }
+fn script_names<R: Runtime + AllocGlobal>(rt: &R, alloc: Global) -> io::Result<Vec<String>> {
+    let mut names = match named_scripts(rt, alloc)? {
+        Some(names) => names,
+        None => scripts_here(rt, alloc)?,
+    };
     names.sort()?;
     Ok(names)
+}
+
+// The scripts that the words name; none where there are no words.
+fn named_scripts<R: Runtime + AllocGlobal>(
+    rt: &R,
+    alloc: Global,
+) -> io::Result<Option<Vec<String>>> {
+    let mut names = Vec::new(alloc);
+    let mut are_named = false;
+    for word in env::args(rt)?.skip(1) {
+        are_named = true;
+        add_script(alloc, &mut names, word.as_str())?;
+    }
+    Ok(if are_named { Some(names) } else { None })
+}
+
+// The scripts of the folder that this is run in.
+fn scripts_here<R: Runtime + AllocGlobal>(rt: &R, alloc: Global) -> io::Result<Vec<String>> {
+    let mut names = Vec::new(alloc);
+    for entry in fs::read_dir(rt, ".")? {
+        add_script(alloc, &mut names, entry?.file_name())?;
+    }
+    Ok(names)
+}
+
+// Lists a file that is a script.
+fn add_script(alloc: Global, names: &mut Vec<String>, name: &str) -> io::Result<()> {
+    if is_script(name) {
+        names.push(String::from_str(alloc, name)?)?;
+    }
+    Ok(())
 }
 
 // The line that fails, and why.

@@ -8,39 +8,80 @@ use std::alloc::Global;
 use std::mem;
 use std::thread::Threads;
 
+// What a run of the program meets.
+#[derive(Drop)]
+struct Outside {
+    files: MemFiles,
+    input: MemSource,
+    out: MemSink,
+    err: MemSink,
+}
+
 /// Runs the program on these words.
-pub fn golink<R: Threads + Sync>(
+pub(crate) fn golink<R: Threads + Sync>(
     rt: &R,
     alloc: Global,
     stage: &mut Stage,
     words: &[Word],
     line: u32,
 ) -> Result<(), Stop> {
-    let faults = mem::replace(&mut stage.faults, Faults::none(alloc));
-    let input = mem::replace(&mut stage.input, Vec::new(alloc));
-    let listed = faults.files.len() as u64;
-    let mut files = files_in_memory(alloc, stage, faults.files)?;
-    let mut input = MemSource::new(input, Vec::new(alloc));
-    let mut out = MemSink::new(alloc, faults.out_room, faults.out)?;
-    let mut err = MemSink::new(alloc, faults.err_room, faults.err)?;
-    let texts = texts_of(alloc, words)?;
-    let outcome = run(
-        rt, alloc, &texts, &mut files, &mut input, &mut out, &mut err,
-    );
-    let status = outcome.status();
-    let changed = take_back(alloc, stage, &files)?;
-    let is_refusal = status != 0 && files.write_faults() == 0;
+    let listed = stage.faults.files.len() as u64;
+    let mut outside = outside_of(alloc, stage)?;
+    let status = status_of(rt, alloc, words, &mut outside)?;
+    let changed = take_back(alloc, stage, &outside.files)?;
+    let is_refusal = status != 0 && outside.files.write_faults() == 0;
     stage.last = Some(Ended {
         line,
         status,
         is_status_checked: false,
-        out: stream(alloc, &out)?,
-        err: stream(alloc, &err)?,
-        failed: files.read_faults().saturating_add(files.write_faults()),
+        out: stream(alloc, &outside.out)?,
+        err: stream(alloc, &outside.err)?,
+        failed: faults_of(&outside.files),
         listed,
         changed: if is_refusal { changed } else { None },
     });
     Ok(())
+}
+
+// What the next run meets. The one after it meets no fault and finds no input.
+fn outside_of(alloc: Global, stage: &mut Stage) -> Result<Outside, Stop> {
+    let Faults {
+        files,
+        out,
+        err,
+        out_room,
+        err_room,
+    } = mem::replace(&mut stage.faults, Faults::none(alloc));
+    let input = mem::replace(&mut stage.input, Vec::new(alloc));
+    Ok(Outside {
+        files: files_in_memory(alloc, stage, files)?,
+        input: MemSource::new(input, Vec::new(alloc)),
+        out: MemSink::new(alloc, out_room, out)?,
+        err: MemSink::new(alloc, err_room, err)?,
+    })
+}
+
+// The status with which the program ends.
+fn status_of<R: Threads + Sync>(
+    rt: &R,
+    alloc: Global,
+    words: &[Word],
+    outside: &mut Outside,
+) -> Result<u8, Stop> {
+    let texts = texts_of(alloc, words)?;
+    let Outside {
+        files,
+        input,
+        out,
+        err,
+    } = outside;
+    let outcome = run(rt, alloc, &texts, files, input, out, err);
+    Ok(outcome.status())
+}
+
+// How many calls of files failed.
+fn faults_of(files: &MemFiles) -> u64 {
+    files.read_faults().saturating_add(files.write_faults())
 }
 
 // What a sink holds.

@@ -1,4 +1,6 @@
 // A script: its files, and its lines.
+ghost use Rattle.std.specs.Prelude.{◌<◌, IfOk};
+
 use crate::lines::{Line, carry};
 use crate::stage::{Named, Stage, ended_well};
 use crate::stop::Stop;
@@ -7,12 +9,20 @@ use std::alloc::Global;
 use std::rt::Runtime;
 use std::thread::Threads;
 
-/// How many runs a script has, and how many checks.
+/// How many lines a script has before its files, how many of them are runs, and how many checks.
 #[derive(Clone, Copy)]
 pub struct Counts {
+    pub lines: u32,
     pub runs: u32,
     pub checks: u32,
 }
+
+/// Nothing yet.
+pub const NO_COUNTS: Counts = Counts {
+    lines: 0,
+    runs: 0,
+    checks: 0,
+};
 
 /// A line of a script that fails.
 #[derive(Drop)]
@@ -79,31 +89,46 @@ fn add_line(alloc: Global, stage: &mut Stage, line: &str, is_values: bool) -> Re
 }
 
 /// Carries out the script at a path up to its first line that fails.
-pub fn carry_out<R: Runtime + AllocGlobal + Threads + Sync>(
+pub(crate) fn carry_out<R: Runtime + AllocGlobal + Threads + Sync>(
     rt: &R,
     alloc: Global,
     path: &str,
     text: &str,
-) -> Result<Counts, Failed> {
+) -> Result<Counts, Failed>
+    ensures runs { IfOk result (λ counts. 0 < counts.runs) }
+    ensures checks { IfOk result (λ counts. 0 < counts.checks) }
+{
     let mut stage = stage_of(alloc, path, text)?;
-    let mut counts = Counts { runs: 0, checks: 0 };
-    let mut line = 0u32;
+    let counts = carry_lines(rt, alloc, &mut stage, text)?;
+    settle(alloc, &stage)?;
+    if counts.runs == 0 || counts.checks == 0 {
+        let stop = Stop::because(alloc, "a script without a run or without a check");
+        return Err(Failed {
+            line: counts.lines,
+            stop,
+        });
+    }
+    Ok(counts)
+}
+
+// Carries out the lines before the first file.
+fn carry_lines<R: Runtime + AllocGlobal + Threads + Sync>(
+    rt: &R,
+    alloc: Global,
+    stage: &mut Stage,
+    text: &str,
+) -> Result<Counts, Failed> {
+    let mut counts = NO_COUNTS;
     for spelled in text.lines() {
         if head_of(spelled).is_some() {
             break;
         }
-        line = line.saturating_add(1);
-        match carry_line(rt, alloc, &mut stage, spelled, line) {
-            Ok(Line::Run) => counts.runs = counts.runs.saturating_add(1),
-            Ok(Line::Check) => counts.checks = counts.checks.saturating_add(1),
-            Ok(Line::Other) => {}
-            Err(failed) => return Err(failed),
+        counts.lines = counts.lines.saturating_add(1);
+        match carry_line(rt, alloc, stage, spelled, counts.lines)? {
+            Line::Run => counts.runs = counts.runs.saturating_add(1),
+            Line::Check => counts.checks = counts.checks.saturating_add(1),
+            Line::Other => {}
         }
-    }
-    settle(alloc, &stage)?;
-    if counts.runs == 0 || counts.checks == 0 {
-        let stop = Stop::because(alloc, "a script without a run or without a check");
-        return Err(Failed { line, stop });
     }
     Ok(counts)
 }

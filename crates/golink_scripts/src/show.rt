@@ -8,7 +8,7 @@ use std::alloc::Global;
 const SHOWN: usize = 48;
 
 /// The first bytes of these: in quotes where they are printable, else in hexadecimal.
-pub fn shown(alloc: Global, bytes: &[u8]) -> Result<String, Stop> {
+pub(crate) fn shown(alloc: Global, bytes: &[u8]) -> Result<String, Stop> {
     let prefix = bytes.get(..SHOWN).unwrap_or(bytes);
     let more = if prefix.len() < bytes.len() { ".." } else { "" };
     if bytes.is_empty() {
@@ -37,7 +37,7 @@ fn printable(alloc: Global, bytes: &[u8]) -> Result<Option<String>, Stop> {
 
 /// Both are the same, or the message has the offset from which on they differ. The first byte of both
 /// is at `start`.
-pub fn same(alloc: Global, wanted: &[u8], found: &[u8], start: usize) -> Result<(), Stop>
+pub(crate) fn same(alloc: Global, wanted: &[u8], found: &[u8], start: usize) -> Result<(), Stop>
     ensures { OnOk result (wanted.now ≡ found.now) }
 {
     if wanted == found {

@@ -1,4 +1,6 @@
 // What a script works on: its files, what the next run meets, and how the last run ended.
+ghost use Rattle.std.specs.Prelude.{◌≡◌, ◌⊎◌, OnOk, true};
+
 use crate::show::{same, shown};
 use crate::stop::Stop;
 use crate::words::{Word, number};
@@ -27,7 +29,7 @@ const ROOM: usize = 1 << 22;
 
 impl Faults {
     /// None.
-    pub fn none(alloc: Global) -> Faults {
+    pub(crate) fn none(alloc: Global) -> Faults {
         Faults {
             files: Vec::new(alloc),
             out: Vec::new(alloc),
@@ -73,7 +75,7 @@ pub struct Stage {
 
 impl Stage {
     /// No files of the script at this path, and no run yet.
-    pub fn new(alloc: Global, script: &str) -> Result<Stage, Stop> {
+    pub(crate) fn new(alloc: Global, script: &str) -> Result<Stage, Stop> {
         let folder = match script.rsplit_once('/') {
             Some((folder, _)) => Some(String::from_str(alloc, folder)?),
             None => None,
@@ -88,7 +90,7 @@ impl Stage {
     }
 
     /// The path of a file beside the script.
-    pub fn path_beside(&self, alloc: Global, name: &str) -> Result<String, Stop> {
+    pub(crate) fn path_beside(&self, alloc: Global, name: &str) -> Result<String, Stop> {
         Ok(match &self.folder {
             Some(folder) => format!(in alloc; "{folder}/{name}")?,
             None => String::from_str(alloc, name)?,
@@ -96,7 +98,7 @@ impl Stage {
     }
 
     /// The bytes of a file, or of what the last run wrote to a stream.
-    pub fn bytes(&self, name: &str) -> Option<&[u8]> {
+    pub(crate) fn bytes(&self, name: &str) -> Option<&[u8]> {
         if let Some(ended) = &self.last {
             match name {
                 "stdout" => return Some(ended.out.bytes.as_slice()),
@@ -113,7 +115,7 @@ impl Stage {
     }
 
     /// The bytes of what a check names; a stream has been looked at then.
-    pub fn checked(&mut self, alloc: Global, name: &str) -> Result<&[u8], Stop> {
+    pub(crate) fn checked(&mut self, alloc: Global, name: &str) -> Result<&[u8], Stop> {
         if let Some(ended) = &mut self.last {
             ended.out.is_checked |= name == "stdout";
             ended.err.is_checked |= name == "stderr";
@@ -125,7 +127,7 @@ impl Stage {
     }
 
     /// Puts a file in place of what has its name.
-    pub fn put(&mut self, alloc: Global, name: &str, bytes: Vec<u8>) -> Result<(), Stop> {
+    pub(crate) fn put(&mut self, alloc: Global, name: &str, bytes: Vec<u8>) -> Result<(), Stop> {
         let name = String::from_str(alloc, name)?;
         self.files.retain(|file| file.name != name);
         self.files.push(Named { name, bytes })?;
@@ -134,7 +136,7 @@ impl Stage {
 
     /// Nothing is left of the last run that no line has looked at and that is not as it is where
     /// nothing is said: status 0, nothing written, all listed faults met, no file of a refusal changed.
-    pub fn settle(&self, alloc: Global) -> Result<(), Stop> {
+    pub(crate) fn settle(&self, alloc: Global) -> Result<(), Stop> {
         let Some(ended) = &self.last else {
             return Ok(());
         };
@@ -155,7 +157,7 @@ impl Stage {
 
     /// The bytes that these words spell: hexadecimal digits, text in quotes, `N*DIGITS`, `@FILE`,
     /// and `@FILE[FROM..TO]`.
-    pub fn value(&self, alloc: Global, words: &[Word]) -> Result<Vec<u8>, Stop> {
+    pub(crate) fn value(&self, alloc: Global, words: &[Word]) -> Result<Vec<u8>, Stop> {
         let mut bytes = Vec::new(alloc);
         for word in words {
             match word {
@@ -167,7 +169,7 @@ impl Stage {
     }
 
     /// The same where these are some bytes: a check of none would always pass.
-    pub fn some_value(&self, alloc: Global, words: &[Word]) -> Result<Vec<u8>, Stop> {
+    pub(crate) fn some_value(&self, alloc: Global, words: &[Word]) -> Result<Vec<u8>, Stop> {
         let bytes = self.value(alloc, words)?;
         if bytes.is_empty() {
             return Err(Stop::because(alloc, "no bytes to look for"));
@@ -222,7 +224,9 @@ impl Stage {
 }
 
 /// A run ended with status 0, or a line has looked at its status.
-pub fn ended_well(alloc: Global, ended: &Ended) -> Result<(), Stop> {
+pub(crate) fn ended_well(alloc: Global, ended: &Ended) -> Result<(), Stop>
+    ensures { OnOk result ((ended.now.is_status_checked ≡ true) ⊎ (ended.now.status ≡ 0)) }
+{
     if ended.is_status_checked || ended.status == 0 {
         return Ok(());
     }
@@ -241,7 +245,9 @@ fn unwritten(alloc: Global, name: &str, stream: &Stream) -> Result<(), Stop> {
 }
 
 /// The last run wrote this to a stream.
-pub fn wrote(alloc: Global, stream: &mut Stream, wanted: &[u8]) -> Result<(), Stop> {
+pub(crate) fn wrote(alloc: Global, stream: &mut Stream, wanted: &[u8]) -> Result<(), Stop>
+    ensures { OnOk result (wanted.now ≡ stream.new.bytes.items) }
+{
     stream.is_checked = true;
     same(alloc, wanted, stream.bytes.as_slice(), 0)
 }

@@ -11,7 +11,7 @@ pub enum Stop {
 
 impl Stop {
     /// A line that fails for this.
-    pub fn because(alloc: Global, why: &str) -> Stop {
+    pub(crate) fn because(alloc: Global, why: &str) -> Stop {
         match String::from_str(alloc, why) {
             Ok(why) => Stop::Line(why),
             Err(_) => Stop::OutOfMemory,

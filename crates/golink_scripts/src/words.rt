@@ -11,7 +11,7 @@ pub enum Word {
 
 impl Word {
     /// The word's text.
-    pub fn text(&self) -> &str {
+    pub(crate) fn text(&self) -> &str {
         match self {
             Word::Bare(text) => text.as_str(),
             Word::Quoted(text) => text.as_str(),
@@ -21,7 +21,7 @@ impl Word {
 
 /// The words of a line, which blanks part. A word in quotes may hold blanks; `\n` in it is a line's
 /// end, and any other character after a `\` is itself.
-pub fn words_of(alloc: Global, line: &str) -> Result<Vec<Word>, Stop> {
+pub(crate) fn words_of(alloc: Global, line: &str) -> Result<Vec<Word>, Stop> {
     let mut words = Vec::new(alloc);
     let mut rest = line.trim();
     // Each word takes a character at least.
@@ -69,7 +69,7 @@ fn unescaped(alloc: Global, spelled: &str) -> Result<String, Stop> {
 }
 
 /// A number: decimal, or hexadecimal after `0x`.
-pub fn number(alloc: Global, text: &str) -> Result<usize, Stop> {
+pub(crate) fn number(alloc: Global, text: &str) -> Result<usize, Stop> {
     let read = match text.strip_prefix("0x") {
         Some(digits) => usize::from_str_radix(digits, 16).ok(),
         None => text.parse::<usize>().ok(),
