@@ -29,9 +29,18 @@ fn main(rt: HostRuntime) -> io::Result<ExitCode> {
 // Runs all scripts, and answers whether all did what they must.
 fn all<R: Runtime + AllocGlobal + Threads + Sync>(rt: &R, alloc: Global) -> io::Result<bool> {
     let names = script_names(rt, alloc)?;
+    run_scripts(rt, alloc, names.as_slice())
+}
+
+// Runs these scripts, and prints the counts of all.
+fn run_scripts<R: Runtime + AllocGlobal + Threads + Sync>(
+    rt: &R,
+    alloc: Global,
+    names: &[String],
+) -> io::Result<bool> {
     let mut are_good = true;
     let mut total = NO_COUNTS;
-    for name in names.iter() {
+    for name in names {
         let (counts, is_good) = one(rt, alloc, name.as_str())?;
         total.runs = total.runs.saturating_add(counts.runs);
         total.checks = total.checks.saturating_add(counts.checks);
@@ -51,16 +60,16 @@ fn one<R: Runtime + AllocGlobal + Threads + Sync>(
 ) -> io::Result<(Counts, bool)> {
     let text = fs::read_to_string(rt, name)?;
     match carry_out(rt, alloc, name, text.as_str()) {
-        Ok(counts) => {
-            let (runs, checks) = (counts.runs, counts.checks);
-            println!(rt; "{name}: {runs} runs, {checks} checks")?;
-            Ok((counts, !is_bad(name)))
-        }
-        Err(failed) => {
-            print_failed(rt, alloc, name, text.as_str(), &failed)?;
-            Ok((NO_COUNTS, is_bad(name)))
-        }
+        Ok(counts) => print_passed(rt, name, counts),
+        Err(failed) => print_failed(rt, alloc, name, text.as_str(), &failed),
     }
+}
+
+// Prints the counts of a script that passes.
+fn print_passed<R: Runtime>(rt: &R, name: &str, counts: Counts) -> io::Result<(Counts, bool)> {
+    let (runs, checks) = (counts.runs, counts.checks);
+    println!(rt; "{name}: {runs} runs, {checks} checks")?;
+    Ok((counts, !is_bad(name)))
 }
 
 // Prints the line that fails: where it must, to standard output.
@@ -70,12 +79,14 @@ fn print_failed<R: Runtime + AllocGlobal>(
     name: &str,
     text: &str,
     failed: &Failed,
-) -> io::Result<()> {
+) -> io::Result<(Counts, bool)> {
     let report = report(alloc, name, text, failed)?;
     if is_bad(name) {
-        println!(rt; "{report}")
+        println!(rt; "{report}")?;
+        Ok((NO_COUNTS, true))
     } else {
-        eprintln!(rt; "{report}")
+        eprintln!(rt; "{report}")?;
+        Ok((NO_COUNTS, false))
     }
 }
 

@@ -28,19 +28,33 @@ pub(crate) fn golink<R: Threads + Sync>(
     let listed = stage.faults.files.len() as u64;
     let mut outside = outside_of(alloc, stage)?;
     let status = status_of(rt, alloc, words, &mut outside)?;
+    stage.last = Some(ended_of(alloc, stage, &outside, status, line, listed)?);
+    Ok(())
+}
+
+// How a run at a line ended that was to meet so many faults of files.
+fn ended_of(
+    alloc: Global,
+    stage: &mut Stage,
+    outside: &Outside,
+    status: u8,
+    line: u32,
+    listed: u64,
+) -> Result<Ended, Stop> {
     let changed = take_back(alloc, stage, &outside.files)?;
     let is_refusal = status != 0 && outside.files.write_faults() == 0;
-    stage.last = Some(Ended {
+    let out = stream(alloc, &outside.out)?;
+    let err = stream(alloc, &outside.err)?;
+    Ok(Ended {
         line,
         status,
         is_status_checked: false,
-        out: stream(alloc, &outside.out)?,
-        err: stream(alloc, &outside.err)?,
+        out,
+        err,
         failed: faults_of(&outside.files),
         listed,
         changed: if is_refusal { changed } else { None },
-    });
-    Ok(())
+    })
 }
 
 // What the next run meets. The one after it meets no fault and finds no input.

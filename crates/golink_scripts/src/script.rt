@@ -99,8 +99,21 @@ pub(crate) fn carry_out<R: Runtime + AllocGlobal + Threads + Sync>(
     ensures checks { IfOk result (λ counts. 0 < counts.checks) }
 {
     let mut stage = stage_of(alloc, path, text)?;
-    let counts = carry_lines(rt, alloc, &mut stage, text)?;
-    settle(alloc, &stage)?;
+    carry_on(rt, alloc, &mut stage, text)
+}
+
+// Carries out the script on its stage.
+fn carry_on<R: Runtime + AllocGlobal + Threads + Sync>(
+    rt: &R,
+    alloc: Global,
+    stage: &mut Stage,
+    text: &str,
+) -> Result<Counts, Failed>
+    ensures runs { IfOk result (λ counts. 0 < counts.runs) }
+    ensures checks { IfOk result (λ counts. 0 < counts.checks) }
+{
+    let counts = carry_lines(rt, alloc, stage, text)?;
+    settle(alloc, stage)?;
     if counts.runs == 0 || counts.checks == 0 {
         let stop = Stop::because(alloc, "a script without a run or without a check");
         return Err(Failed {
