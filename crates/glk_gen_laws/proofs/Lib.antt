@@ -1,0 +1,3 @@
+pub mod LineBytes
+pub mod LineLists
+pub mod Lists
