@@ -69,7 +69,8 @@ impl<'a> Merged<'a> {
         self.rows.package(o)
     }
 
-    /// The kind that a number of relocations means, if it means one. The bit that says weak is no part of the number.
+    /// The kind that a number of relocations means, if it means one. The bit that says weak is no part
+    /// of the number.
     pub fn kind(&self, number: u16) -> Option<RelocKind>
         ensures { result ≡ kind_of self.now.program.numbers number }
     {

@@ -92,14 +92,16 @@ fn mark_objects(flags: &mut [bool], rows: &Rows<'_>, offers: &Offers, keys: &[u3
     requires offers { AreOffers rows.now offers.now.starts.items offers.now.list.items }
     requires keys { AreKeyIds rows.now keys.now }
     ensures { (k : ℕ) → k < length flags.old → get_or flags.new k false
-        ≡ (get_or flags.old k false || some_below (is_marked_in rows.now k) (length (objects_of rows.now.world))) }
+        ≡ (get_or flags.old k false
+        || some_below (is_marked_in rows.now k) (length (objects_of rows.now.world))) }
 {
     for n in 0..rows.objects() {
         mark_object(flags, rows, offers, keys, n);
     }
 }
 
-// Marks what the definitions and the records of flags of all rows and objects mark, where nothing is marked yet.
+// Marks what the definitions and the records of flags of all rows and objects mark, where nothing is
+// marked yet.
 fn mark_all(flags: &mut [bool], rows: &Rows<'_>, offers: &Offers, keys: &[u32])
     requires offers { AreOffers rows.now offers.now.starts.items offers.now.list.items }
     requires keys { AreKeyIds rows.now keys.now }

@@ -91,7 +91,8 @@ fn push_offers(
 ) -> Result<(), AllocError>
     requires world { loaded.now ≡ rows.now.world }
     requires object { n < length (objects_of rows.now.world) }
-    ensures { OnOk result (AppendsOffers rows.now n (count (object_at rows.now n) pkg_idx) offers.old.items offers.new.items) }
+    ensures { OnOk result (AppendsOffers rows.now n
+        (count (object_at rows.now n) pkg_idx) offers.old.items offers.new.items) }
 {
     let entries = rows.object(ObjId(n)).count(Block::PkgIdx);
     for k in 0..entries {
