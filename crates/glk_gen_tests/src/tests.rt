@@ -1,5 +1,7 @@
 // What worlds are. The expected bytes are from a second program, written from the format.
+use glk_ar::{members, object_part};
 use glk_gen::{World, gen_world};
+use glk_obj::ObjView;
 use sha2::{Digest, Sha256};
 use std::alloc::{AllocError, Global};
 use std::test::Fail;
@@ -58,6 +60,20 @@ fn flat(alloc: Global, world: &World) -> Result<Vec<u8>, AllocError> {
     Ok(out)
 }
 
+// Whether a package file begins with an object that breaks no rule.
+fn is_sound(archive: &[u8]) -> bool {
+    let Ok(mut walk) = members(archive) else {
+        return false;
+    };
+    let Some(Ok(member)) = walk.next() else {
+        return false;
+    };
+    match object_part(member.body) {
+        Ok(part) => ObjView::read(part.goobj).is_ok(),
+        Err(_) => false,
+    }
+}
+
 #[test]
 fn the_smallest_world(rt: HostRuntime) -> Result<(), Fail> {
     let alloc = rt.alloc();
@@ -75,5 +91,15 @@ fn a_world_of_three_packages(rt: HostRuntime) -> Result<(), Fail> {
     assert_eq!(rt; bytes.len(), THREE_PACKAGES_LENGTH);
     let digest = Sha256::digest(bytes.as_slice());
     assert!(rt; digest == THREE_PACKAGES_DIGEST);
+    Ok(())
+}
+
+#[test]
+fn objects_break_no_rule(rt: HostRuntime) -> Result<(), Fail> {
+    let world = gen_world(rt.alloc(), 7, 1025)?;
+    assert_eq!(rt; world.archives.as_slice().len(), 18);
+    for (path, archive) in world.archives.as_slice() {
+        assert!(rt; is_sound(archive.as_bytes()), "{}", path.as_str());
+    }
     Ok(())
 }
