@@ -1,4 +1,4 @@
-use Rattle.std.proofs.Common.{◌≡◌, ◌∙◌, ◌+◌, ℕ, List, Option, [], ◌∷◌, ◌++◌, length, get_or, None, ap, inl, inr, arith, rules, to_z, of_z, w32, length-append}
+use Rattle.std.proofs.Common.{◌≡◌, ◌∙◌, ℕ, List, Option, [], ◌∷◌, length, get_or, None, ap, inl, inr, arith, rules, to_z, of_z, w32, length-append}
 use Rattle.std.proofs.lemmas.Bool.{cases_lt}
 use Rattle.std.proofs.lemmas.List.{get_or_append_left, get_or_at}
 use Rattle.glk_obj.specs.FuncInfos.{Node}

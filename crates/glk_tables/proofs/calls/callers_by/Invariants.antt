@@ -1,4 +1,4 @@
-use Rattle.std.proofs.Common.{◌≡◌, ◌<◌, ◌≤◌, ℕ, List, length}
+use Rattle.std.proofs.Common.{◌≡◌, ◌<◌, ℕ, List, length}
 use Rattle.glk_pcval.specs.Table.{ranges}
 use Rattle.glk_tables.specs.Calls.{caller}
 use Rattle.glk_tables.specs.Chains.{link}

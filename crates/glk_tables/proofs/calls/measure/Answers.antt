@@ -1,5 +1,4 @@
-use Rattle.std.proofs.Common.{◌∙◌, ◌+◌, Some, get_or, refl, arith}
-use Rattle.glk_tables.specs.Calls.{after_calls, most_nodes}
+use Rattle.std.proofs.Common.{Some, get_or, arith}
 use Rattle.glk_tables.specs.Chains.{link}
 use Rattle.glk_tables.proofs.ChainLemmas.{after_zero, step_on, length_from, one_node, long_from, long_here}
 use Rattle.glk_tables.proofs.calls.measure.Goals as goal
