@@ -1,0 +1,5 @@
+pub mod Addresses
+pub mod Lines
+pub mod Texts
+pub mod Writing
+pub mod Answers
