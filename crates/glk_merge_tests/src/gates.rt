@@ -2,8 +2,8 @@
 use glk_io::Gate;
 use std::sync::atomic::{AtomicU64, Ordering};
 
-// Which workers have passed and left, as sums of powers of two; how many left before they passed; and how many
-// rows they entered.
+// Which workers have passed and left, as sums of powers of two; how many left before they passed; and
+// how many rows they entered.
 #[derive(Drop)]
 pub struct Recorder {
     pub passed: AtomicU64,

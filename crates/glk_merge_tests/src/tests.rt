@@ -1,16 +1,21 @@
 // Merging objects of two packages. Symbols of `main` are the first rows, and those of `p` come after them.
+ghost use Rattle.std.specs.Prelude.{◌≤◌};
+
 use crate::gates::{Held, Recorder};
 use crate::worlds::{loaded, merged};
 use glk_arena::{Builtins, Loaded};
-use glk_base::{KeyId, ObjId, SymId};
-use glk_io::Open;
-use glk_keys::{MADE_COUNT, Target};
+use glk_base::{ObjId, SymId};
+use glk_io::{Gate, Open};
+use glk_keys::Target;
 use glk_merge::Merged;
 use glk_obj::{BUILTIN_PACKAGE, SymRef};
 use std::alloc::Global;
 use std::sync::atomic::Ordering;
 use std::test::Fail;
 use std::thread::Threads;
+
+// What stands for no row.
+const NONE: u32 = u32::MAX;
 
 const MAIN: &str = "object 0 0000000000000000
 autolib p 0000000000000000
@@ -26,19 +31,33 @@ def p.f 1 1 0 0 8 0
 data c3
 ";
 
+// How many rows there are after a merge past this gate.
+fn rows_past<G: Gate, R: Threads + Sync>(
+    rt: &R,
+    alloc: Global,
+    loaded: &Loaded,
+    workers: u32,
+    gate: &G,
+) -> Result<u64, Fail>
+    requires { (1 ≤ workers) × (workers ≤ 64) }
+{
+    let builtins = Builtins::none(alloc);
+    match merged(rt, alloc, loaded, &builtins, workers, gate)? {
+        Ok(merged) => Ok(merged.rows() as u64),
+        Err(_) => Err(Fail::from("a clash")),
+    }
+}
+
 #[test]
 fn each_worker_passes_and_leaves_with_its_rows(rt: HostRuntime) -> Result<(), Fail> {
     let loaded = loaded(rt.alloc(), MAIN, OTHER)?;
-    let builtins = Builtins::none(rt.alloc());
     for (workers, all) in [(1, 1), (2, 3), (64, u64::MAX)] {
         let gate = Recorder::new();
-        let Ok(merged) = merged(&rt, rt.alloc(), &loaded, &builtins, workers, &gate)? else {
-            return Err(Fail::from("a clash"));
-        };
-        assert_eq!(rt; gate.passed.load(Ordering::SeqCst), all);
-        assert_eq!(rt; gate.left.load(Ordering::SeqCst), all);
-        assert_eq!(rt; gate.early.load(Ordering::SeqCst), 0);
-        assert_eq!(rt; gate.rows.load(Ordering::SeqCst), merged.rows() as u64);
+        let rows = rows_past(&rt, rt.alloc(), &loaded, workers, &gate)?;
+        assert!(rt; gate.passed.load(Ordering::SeqCst) == all);
+        assert!(rt; gate.left.load(Ordering::SeqCst) == all);
+        assert!(rt; gate.early.load(Ordering::SeqCst) == 0);
+        assert!(rt; gate.rows.load(Ordering::SeqCst) == rows);
     }
     Ok(())
 }
@@ -46,65 +65,66 @@ fn each_worker_passes_and_leaves_with_its_rows(rt: HostRuntime) -> Result<(), Fa
 #[test]
 fn two_workers_run_at_once(rt: HostRuntime) -> Result<(), Fail> {
     let loaded = loaded(rt.alloc(), MAIN, OTHER)?;
-    let builtins = Builtins::none(rt.alloc());
     let gate = Held::new();
-    let Ok(merged) = merged(&rt, rt.alloc(), &loaded, &builtins, 2, &gate)? else {
-        return Err(Fail::from("a clash"));
-    };
-    assert_eq!(rt; gate.in_time.load(Ordering::SeqCst), 1);
-    assert_eq!(rt; gate.rows.load(Ordering::SeqCst), merged.rows() as u64);
+    let rows = rows_past(&rt, rt.alloc(), &loaded, 2, &gate)?;
+    assert!(rt; gate.in_time.load(Ordering::SeqCst) == 1);
+    assert!(rt; gate.rows.load(Ordering::SeqCst) == rows);
     Ok(())
 }
 
-// The key and the chosen definition of a name.
-fn found(merged: &Merged<'_>, name: &[u8], abi: u16) -> Option<(KeyId, Option<SymId>)> {
+// The row of the chosen definition.
+fn row_number(id: Option<SymId>) -> u32 {
+    match id {
+        Some(id) => id.0,
+        None => NONE,
+    }
+}
+
+// The key of a name, and the row of its chosen definition.
+fn found_in(merged: &Merged<'_>, name: &[u8], abi: u16) -> (u32, u32) {
     match merged.find(name, abi) {
-        Some(key) => Some((key, merged.chosen(key))),
-        None => None,
+        Some(key) => (key.0, row_number(merged.chosen(key))),
+        None => (NONE, NONE),
+    }
+}
+
+// The same after a merge by so many workers.
+fn found<R: Threads + Sync>(
+    rt: &R,
+    alloc: Global,
+    loaded: &Loaded,
+    workers: u32,
+    name: &[u8],
+    abi: u16,
+) -> Result<(u32, u32), Fail>
+    requires { (1 ≤ workers) × (workers ≤ 64) }
+{
+    let builtins = Builtins::none(alloc);
+    match merged(rt, alloc, loaded, &builtins, workers, &Open)? {
+        Ok(merged) => Ok(found_in(&merged, name, abi)),
+        Err(_) => Err(Fail::from("a clash")),
     }
 }
 
 #[test]
 fn names_are_found_with_their_definitions(rt: HostRuntime) -> Result<(), Fail> {
     let loaded = loaded(rt.alloc(), MAIN, OTHER)?;
-    let builtins = Builtins::none(rt.alloc());
-    for workers in [1, 2, 64] {
-        let Ok(merged) = merged(&rt, rt.alloc(), &loaded, &builtins, workers, &Open)? else {
-            return Err(Fail::from("a clash"));
-        };
+    for (workers, name, abi, key, chosen) in [
         // The reference of main is the least row of the key that p defines.
-        assert_eq!(rt; found(&merged, b"p.f", 1), Some((KeyId(1), Some(SymId(2)))));
-        assert_eq!(rt;
-            found(&merged, b"main.main", 0),
-            Some((KeyId(0), Some(SymId(0))))
-        );
+        (1, "p.f", 1, 1, 2),
+        (2, "p.f", 1, 1, 2),
+        (64, "p.f", 1, 1, 2),
+        (2, "main.main", 0, 0, 0),
         // Asked for, and defined nowhere.
-        assert_eq!(rt; found(&merged, b"main.main", 1), Some((KeyId(4), None)));
-        assert_eq!(rt; found(&merged, b"p.g", 1), None);
+        (2, "main.main", 1, 4, NONE),
+        (2, "p.g", 1, NONE, NONE),
         // The first made name comes after the eight rows that are asked for.
-        assert_eq!(rt;
-            found(&merged, b"runtime.text", 0),
-            Some((KeyId(11), Some(SymId(11))))
-        );
+        (2, "runtime.text", 0, 11, 11),
+    ] {
+        let is = found(&rt, rt.alloc(), &loaded, workers, name.as_bytes(), abi)?;
+        assert!(rt; is == (key, chosen), "of {name}");
     }
     Ok(())
-}
-
-// The definition of a name that two packages define.
-fn chosen_in<R: Threads + Sync>(
-    rt: &R,
-    alloc: Global,
-    loaded: &Loaded,
-    name: &[u8],
-) -> Result<Option<SymId>, Fail> {
-    let builtins = Builtins::none(alloc);
-    let Ok(merged) = merged(rt, alloc, loaded, &builtins, 2, &Open)? else {
-        return Err(Fail::from("a clash"));
-    };
-    match found(&merged, name, 1) {
-        Some((_, chosen)) => Ok(chosen),
-        None => Ok(None),
-    }
 }
 
 const SMALL: &str = "object 0 0000000000000000
@@ -119,16 +139,6 @@ def d 1 1 1 0 16 0
 data c3
 ";
 
-#[test]
-fn the_larger_of_two_dupok_definitions_is_chosen(rt: HostRuntime) -> Result<(), Fail> {
-    let alloc = rt.alloc();
-    let first = loaded(alloc, SMALL, LARGE)?;
-    assert_eq!(rt; chosen_in(&rt, alloc, &first, b"d")?, Some(SymId(1)));
-    let second = loaded(alloc, LARGE, SMALL)?;
-    assert_eq!(rt; chosen_in(&rt, alloc, &second, b"d")?, Some(SymId(0)));
-    Ok(())
-}
-
 const SMALL_HASHED: &str = "object 0 0000000000000000
 autolib p 0000000000000000
 hash64 a 1 1 0 0 8 0 0123456789abcdef
@@ -141,65 +151,107 @@ data c3
 ";
 
 #[test]
-fn definitions_of_one_hash_are_one_symbol(rt: HostRuntime) -> Result<(), Fail> {
-    let loaded = loaded(rt.alloc(), SMALL_HASHED, LARGE_HASHED)?;
-    let builtins = Builtins::none(rt.alloc());
-    let Ok(merged) = merged(&rt, rt.alloc(), &loaded, &builtins, 2, &Open)? else {
-        return Err(Fail::from("a clash"));
-    };
-    if merged.rows() > 1 {
-        let key = merged.key(SymId(1));
-        assert_eq!(rt; key, KeyId(0));
-        assert_eq!(rt; merged.chosen(key), Some(SymId(1)));
+fn the_larger_of_two_dupok_definitions_is_chosen(rt: HostRuntime) -> Result<(), Fail> {
+    for (main, other, chosen) in [(SMALL, LARGE, 1), (LARGE, SMALL, 0)] {
+        let loaded = loaded(rt.alloc(), main, other)?;
+        let is = found(&rt, rt.alloc(), &loaded, 2, b"d", 1)?;
+        assert!(rt; is == (0, chosen));
     }
     Ok(())
 }
 
+// The key of a row, and the row of its chosen definition.
+fn of_row(merged: &Merged<'_>, id: u32) -> (u32, u32) {
+    if id < merged.rows() {
+        let key = merged.key(SymId(id));
+        (key.0, row_number(merged.chosen(key)))
+    } else {
+        (NONE, NONE)
+    }
+}
+
 #[test]
-fn two_definitions_with_content_clash(rt: HostRuntime) -> Result<(), Fail> {
-    let alloc = rt.alloc();
-    let main = "object 0 0000000000000000
+fn definitions_of_one_hash_are_one_symbol(rt: HostRuntime) -> Result<(), Fail> {
+    let loaded = loaded(rt.alloc(), SMALL_HASHED, LARGE_HASHED)?;
+    let builtins = Builtins::none(rt.alloc());
+    match merged(&rt, rt.alloc(), &loaded, &builtins, 2, &Open)? {
+        Ok(merged) => assert!(rt; of_row(&merged, 1) == (0, 1)),
+        Err(_) => return Err(Fail::from("a clash")),
+    }
+    Ok(())
+}
+
+const FIRST_X: &str = "object 0 0000000000000000
 autolib p 0000000000000000
 ndef x 1 1 0 0 8 0
 data c3
 ref x 1 0 0 0 0 0
 ";
-    let other = "object 0 0000000000000000
+
+const SECOND_X: &str = "object 0 0000000000000000
 def x 1 1 0 0 8 0
 data c3
 ";
-    let loaded = loaded(alloc, main, other)?;
+
+// The clash of two definitions of `x`.
+fn clash_of_x<R: Threads + Sync>(
+    rt: &R,
+    alloc: Global,
+    loaded: &Loaded,
+    workers: u32,
+) -> Result<(u32, u32), Fail>
+    requires { (1 ≤ workers) × (workers ≤ 64) }
+{
     let builtins = Builtins::none(alloc);
+    match merged(rt, alloc, loaded, &builtins, workers, &Open)? {
+        Ok(_) => Err(Fail::from("no clash")),
+        Err(clash) => {
+            if clash.name.as_bytes() == b"x" {
+                Ok((clash.first.0, clash.second.0))
+            } else {
+                Err(Fail::from("another name"))
+            }
+        }
+    }
+}
+
+#[test]
+fn two_definitions_with_content_clash(rt: HostRuntime) -> Result<(), Fail> {
+    let loaded = loaded(rt.alloc(), FIRST_X, SECOND_X)?;
     for workers in [1, 2, 64] {
-        let Err(clash) = merged(&rt, alloc, &loaded, &builtins, workers, &Open)? else {
-            return Err(Fail::from("no clash"));
-        };
-        assert_eq!(rt; clash.name.as_bytes(), b"x".as_slice());
-        assert_eq!(rt; (clash.first, clash.second), (SymId(0), SymId(2)));
+        assert!(rt; clash_of_x(&rt, rt.alloc(), &loaded, workers)? == (0, 2));
     }
     Ok(())
 }
 
+// The key that a reference of `main` into the builtin list means.
+fn builtin_key(merged: &Merged<'_>, index: u32) -> u32 {
+    let reference = SymRef {
+        pkg: BUILTIN_PACKAGE,
+        sym: index,
+    };
+    if merged.objects() == 0 {
+        return NONE;
+    }
+    match merged.target(ObjId(0), reference) {
+        Target::Key(key) => key.0,
+        Target::Nothing => NONE,
+        Target::Missing { .. } => NONE,
+    }
+}
+
 #[test]
 fn references_into_the_builtin_list_mean_its_rows(rt: HostRuntime) -> Result<(), Fail> {
-    let alloc = rt.alloc();
-    let loaded = loaded(alloc, MAIN, OTHER)?;
-    let builtins = Builtins::parse(alloc, b"runtime.g 1\np.f 1\n")?;
-    let Ok(merged) = merged(&rt, alloc, &loaded, &builtins, 2, &Open)? else {
-        return Err(Fail::from("a clash"));
-    };
-    if merged.objects() > 0 {
-        let builtin = |index: u32| {
-            merged.target(
-                ObjId(0),
-                SymRef {
-                    pkg: BUILTIN_PACKAGE,
-                    sym: index,
-                },
-            )
-        };
-        assert_eq!(rt; builtin(0), Target::Key(KeyId(3 + 8 + MADE_COUNT)));
-        assert_eq!(rt; builtin(1), Target::Key(KeyId(1)));
+    let loaded = loaded(rt.alloc(), MAIN, OTHER)?;
+    let builtins = Builtins::parse(rt.alloc(), b"runtime.g 1\np.f 1\n")?;
+    match merged(&rt, rt.alloc(), &loaded, &builtins, 2, &Open)? {
+        Ok(merged) => {
+            // After three rows of objects, eight that are asked for, and 27 made names.
+            assert!(rt; builtin_key(&merged, 0) == 38);
+            assert!(rt; builtin_key(&merged, 1) == 1);
+            assert!(rt; builtin_key(&merged, 2) == NONE);
+        }
+        Err(_) => return Err(Fail::from("a clash")),
     }
     Ok(())
 }
