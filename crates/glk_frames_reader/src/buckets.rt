@@ -34,7 +34,8 @@ fn begin_in(view: &ElfView<'_>, table: u64, off: u64) -> Option<u64>
 // The first function from there on whose next one starts above the offset.
 fn found_from(view: &ElfView<'_>, region: &[u8], table: u64, off: u64) -> Option<usize>
     requires { IsRegion region.now }
-    ensures value { result ≡ from_begin (start_in region.now) off (count_of region.now) (begin_of (loaded view.now) table off) }
+    ensures value { result
+        ≡ from_begin (start_in region.now) off (count_of region.now) (begin_of (loaded view.now) table off) }
     ensures below { IfSome result (λ i. i < count_of region.now) }
 {
     let begin = begin_in(view, table, off)?;

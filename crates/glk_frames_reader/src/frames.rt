@@ -60,10 +60,11 @@ fn node_at(image: &Module<'_>, tree: u128, index: i32) -> Option<Node>
 }
 
 // The inlined call at an offset, if there is one.
-fn inlined(image: &Module<'_>, region: &[u8], at: usize, off: i64) -> Option<Node>
+fn inlined_call(image: &Module<'_>, region: &[u8], at: usize, off: i64) -> Option<Node>
     requires { HasRecord image.now region.now at }
     ensures { option_map node_view result
-        ≡ node_of (loaded image.now.file) (image.now.base + funcdata_in region.now at 3) (inline_index_of region.now at off) }
+        ≡ node_of (loaded image.now.file) (image.now.base + funcdata_in region.now at 3)
+        (inline_index_of region.now at off) }
 {
     let index = inline_index(region, at, off)?;
     node_at(
@@ -104,7 +105,7 @@ fn step<'a>(image: &Module<'_>, region: &'a [u8], at: usize, off: i64) -> (Frame
     requires { HasRecord image.now region.now at }
     ensures { step_view result ≡ step_in (image_of image.now) at off }
 {
-    frame_of(region, at, off, inlined(image, region, at, off))
+    frame_of(region, at, off, inlined_call(image, region, at, off))
 }
 
 // The first of the frames from an offset on, of which at most so many come, and the offset of the next.

@@ -7,6 +7,7 @@
 mod buckets;
 mod frames;
 mod function;
+mod laws;
 mod memory;
 mod module;
 mod names;
@@ -16,4 +17,5 @@ mod search;
 
 pub use frames::{Frame, Frames};
 pub use function::Func;
+pub use laws::searches_agree;
 pub use module::Module;

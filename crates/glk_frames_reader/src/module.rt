@@ -65,13 +65,14 @@ impl<'a> Model for Module<'a> {
 
     ghost Value = { FileModule };
 
-    ghost view = { λ m. record { file = m.view.now; region = m.region.now; base = m.base; buckets = m.buckets } };
+    ghost view = { λ m.
+        record { file = m.view.now; region = m.region.now; base = m.base; buckets = m.buckets } };
 
     ghost invariant = { λ m. IsOpened m.region.now m.view.now m.rising };
 }
 
 // The functions of a region of a file.
-fn opened<'a>(
+fn module_of<'a>(
     view: &'a ElfView<'a>,
     region: &'a [u8],
     base: u64,
@@ -112,9 +113,10 @@ fn data_number(bytes: &[u8], at: usize) -> u64
 
 // The region that module data tell.
 #[tactic(auto, unfolding(crate::specs::Opening::region_address, crate::specs::Opening::region_end))]
-fn region_told<'a>(view: &ElfView<'a>, bytes: &[u8]) -> Option<&'a [u8]>
+fn region_of_data<'a>(view: &ElfView<'a>, bytes: &[u8]) -> Option<&'a [u8]>
     requires { length bytes.now ≡ module_data_size }
-    ensures { option_copied result ≡ loaded view.now (region_address bytes.now) (region_end bytes.now - region_address bytes.now) }
+    ensures { option_copied result
+        ≡ loaded view.now (region_address bytes.now) (region_end bytes.now - region_address bytes.now) }
 {
     let table = data_number(bytes, PCLNTABLE);
     bytes_up_to(
@@ -127,13 +129,13 @@ fn region_told<'a>(view: &ElfView<'a>, bytes: &[u8]) -> Option<&'a [u8]>
 
 // The functions of a region that module data tell.
 #[tactic(auto, unfolding(crate::specs::Opening::data_module, crate::specs::Opening::gofunc_address, crate::specs::Opening::findfunctab_address))]
-fn told<'a>(view: &'a ElfView<'a>, bytes: &[u8], region: &'a [u8]) -> Module<'a>
+fn module_of_data<'a>(view: &'a ElfView<'a>, bytes: &[u8], region: &'a [u8]) -> Module<'a>
     requires size { length bytes.now ≡ module_data_size }
     requires region { IsRegion region.now }
     ensures { result ≡ data_module view.now bytes.now region.now }
 {
     let buckets = data_number(bytes, FINDFUNCTAB);
-    opened(view, region, data_number(bytes, GOFUNC), Some(buckets))
+    module_of(view, region, data_number(bytes, GOFUNC), Some(buckets))
 }
 
 impl<'a> Module<'a> {
@@ -154,7 +156,7 @@ impl<'a> Module<'a> {
         if !is_region(section.bytes) {
             return Err(BAD_TABLES);
         }
-        Ok(opened(view, section.bytes, rodata_address(view), None))
+        Ok(module_of(view, section.bytes, rodata_address(view), None))
     }
 
     /// The functions that the module data at this address tell.
@@ -169,13 +171,13 @@ impl<'a> Module<'a> {
         let Some(bytes) = view.segment_bytes(addr, MODULE_DATA_SIZE) else {
             return Err(BAD_TABLES);
         };
-        let Some(region) = region_told(view, bytes) else {
+        let Some(region) = region_of_data(view, bytes) else {
             return Err(BAD_TABLES);
         };
         if !is_region(region) {
             return Err(BAD_TABLES);
         }
-        Ok(told(view, bytes, region))
+        Ok(module_of_data(view, bytes, region))
     }
 
     // Which function is at an address.

@@ -43,7 +43,8 @@ has_outside n target = any_outside n (ranges (table_bytes target))
 -- a chain of inlined calls is too long
 unfoldable pub has_long_chain : Option (List ℕ) → Target → Bool
 has_long_chain None pcinline = false
-has_long_chain (Some info) pcinline = any_below (is_long (caller info (table_bytes pcinline))) (nodes_of (Some info))
+has_long_chain (Some info) pcinline =
+    any_below (is_long (caller info (table_bytes pcinline))) (nodes_of (Some info))
 
 -- an inlined call is of a symbol that is out of range in the object
 unfoldable pub has_stray_call : List ℕ → Option (List ℕ) → Bool

@@ -73,7 +73,8 @@ fn callers_by(
     list: &[(i32, u32)],
 ) -> Result<Vec<Option<u32>>, OutOfMemory>
     requires { IsNonDecreasingBy (λ range. range.1) list.now }
-    ensures { IfOk result (λ callers. (table : List ℕ) → list.now ≡ ranges table → AreCallers info.now table callers.items) }
+    ensures { IfOk result (λ callers.
+        (table : List ℕ) → list.now ≡ ranges table → AreCallers info.now table callers.items) }
 {
     let count = info.nodes();
     let mut callers = Vec::with_capacity(alloc, count as usize)?;
@@ -167,7 +168,8 @@ pub(crate) fn has_long_chain(
     info: &FuncInfo<'_>,
     pcinline: &[u8],
 ) -> Result<bool, OutOfMemory>
-    ensures { IfOk result (λ long. long ≡ any_below (is_long (caller_of info.now pcinline.now)) (node_count info.now)) }
+    ensures { IfOk result (λ long.
+        long ≡ any_below (is_long (caller_of info.now pcinline.now)) (node_count info.now)) }
 {
     let callers = callers_of(alloc, info, pcinline)?;
     any_long(alloc, &callers, info.nodes())

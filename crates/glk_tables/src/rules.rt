@@ -98,7 +98,8 @@ fn any_not_rodata(kinds: &[Option<SymKind>]) -> bool
 
 // Whether a node is of a symbol that is out of range in the object.
 fn any_stray(object: &ObjView<'_>, info: &FuncInfo<'_>) -> bool
-    ensures { result ≡ any_below (λ k. not (in_range object.now (node_at info.now k).func)) (node_count info.now) }
+    ensures { result
+        ≡ any_below (λ k. not (in_range object.now (node_at info.now k).func)) (node_count info.now) }
 {
     for k in 0..info.nodes() {
         if !object.in_range(info.node(k).func) {
@@ -168,7 +169,8 @@ fn p4(f: &FuncTables<'_>) -> Option<Table>
 // Whether a chain of inlined calls is too long.
 #[tactic(auto, unfolding(crate::specs::Rules::has_long_chain))]
 fn is_too_deep(alloc: Global, f: &FuncTables<'_>) -> Result<bool, OutOfMemory>
-    ensures { IfOk result (λ deep. let t = tables_view f.now in deep ≡ has_long_chain_of (info_of t.info) t.pcinline) }
+    ensures { IfOk result (λ deep.
+        let t = tables_view f.now in deep ≡ has_long_chain_of (info_of t.info) t.pcinline) }
 {
     match read_info(f.info) {
         Some(info) => has_long_chain(alloc, &info, table_bytes(f.pcinline)),
@@ -278,7 +280,8 @@ fn first_broken(
     f: &FuncTables<'_>,
 ) -> Result<Option<BrokenTable>, OutOfMemory>
     requires { HasSmallTables f.now }
-    ensures { IfOk result (λ found. option_map broken_view found ≡ first_broken_of object.now (tables_view f.now)) }
+    ensures { IfOk result (λ found.
+        option_map broken_view found ≡ first_broken_of object.now (tables_view f.now)) }
 {
     let fifth = by_rule(5, p5(alloc, f)?, after_p5(object, f));
     let fourth = by_rule(4, p4(f), fifth);
