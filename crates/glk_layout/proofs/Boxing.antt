@@ -7,7 +7,7 @@ use Rattle.std.proofs.lemmas.List.Sums.{fold-append, fold_more}
 use Rattle.glk_base.specs.Multiples.{IsLeastMultiple}
 use Rattle.glk_base.proofs.MultipleLemmas.{multiple_is_least}
 use Rattle.glk_elf.specs.Image.{multiple_from}
-use Rattle.glk_layout.specs.declared.input.Symbol.{Symbol}
+use Rattle.glk_layout.specs.declared.input.KeptSymbol.{KeptSymbol}
 use Rattle.glk_layout.specs.Boxes.{Box, box_address, box_end, end_after}
 use Rattle.glk_layout.specs.Symbols.{is_in, box_of, boxes_in}
 
@@ -70,28 +70,28 @@ end_above bound (b ∷ boxes) some =
 -- The boxes of a section's symbols, symbol by symbol.
 
 -- where a section ends after one more symbol
-abbrev pub with_symbol : ℕ → ℕ → Symbol → ℕ
+abbrev pub with_symbol : ℕ → ℕ → KeptSymbol → ℕ
 with_symbol n end s = if is_in n s then box_end end (box_of s) else end
 
-fold_step : (b : Bool) (end : ℕ) (s : Symbol) (rest : List Symbol) → fold box_end end (map box_of (cond b (s ∷ rest) rest)) ≡ fold box_end (cond b (box_end end (box_of s)) end) (map box_of rest)
+fold_step : (b : Bool) (end : ℕ) (s : KeptSymbol) (rest : List KeptSymbol) → fold box_end end (map box_of (cond b (s ∷ rest) rest)) ≡ fold box_end (cond b (box_end end (box_of s)) end) (map box_of rest)
 fold_step true end s rest = refl
 fold_step false end s rest = refl
 
-fold_boxes : (n end : ℕ) (symbols : List Symbol) → end_after end (boxes_in n symbols) ≡ fold (with_symbol n) end symbols
+fold_boxes : (n end : ℕ) (symbols : List KeptSymbol) → end_after end (boxes_in n symbols) ≡ fold (with_symbol n) end symbols
 unfolding end_after boxes_in
 fold_boxes n end [] = refl
 fold_boxes n end (s ∷ symbols) =
     fold_step (is_in n s) end s (filter (is_in n) symbols) ∙ fold_boxes n (with_symbol n end s) symbols
 
 -- where the symbols of a section end, one symbol further
-pub symbols_more : (n start : ℕ) (symbols : List Symbol) (i : ℕ) (d : Symbol) → i < length symbols
+pub symbols_more : (n start : ℕ) (symbols : List KeptSymbol) (i : ℕ) (d : KeptSymbol) → i < length symbols
     → end_after start (boxes_in n (take (i + 1) symbols)) ≡ with_symbol n (end_after start (boxes_in n (take i symbols))) (get_or symbols i d)
 symbols_more n start symbols i d lt =
     fold_boxes n start (take (i + 1) symbols)
     ∙ (fold_more (with_symbol n) start symbols i d lt
     ∙ ap (λ e. with_symbol n e (get_or symbols i d)) (sym (fold_boxes n start (take i symbols))))
 
-pub symbols_none : (n start : ℕ) (symbols : List Symbol) → end_after start (boxes_in n (take 0 symbols)) ≡ start
+pub symbols_none : (n start : ℕ) (symbols : List KeptSymbol) → end_after start (boxes_in n (take 0 symbols)) ≡ start
 unfolding end_after boxes_in
 symbols_none n start symbols = refl
 

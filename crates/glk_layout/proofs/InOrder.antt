@@ -9,7 +9,7 @@ use Rattle.glk_obj.specs.declared.symbols.SymKind.{SymKind}
 use Rattle.glk_obj.specs.declared.symbols.SymKind.TheVariants.{Text, Rodata, NoptrData, Data, Bss, NoptrBss, TlsBss}
 use Rattle.glk_elf.specs.Sections.{text, rodata, written_data, bss, noptrbss, tbss}
 use Rattle.glk_elf.specs.Placing.{text_start, of_section}
-use Rattle.glk_layout.specs.declared.input.Symbol.{Symbol}
+use Rattle.glk_layout.specs.declared.input.KeptSymbol.{KeptSymbol}
 use Rattle.glk_layout.specs.declared.input.Contents.{Contents}
 use Rattle.glk_layout.specs.declared.placing.Layout.{Layout}
 use Rattle.glk_layout.specs.Boxes.{Box, no_box, box_end, end_after}
@@ -94,7 +94,7 @@ boxes_in_order bound boxes some = in_order bound boxes some
 
 -- Symbols of a section.
 
-with_above : (n end : ℕ) (s : Symbol) → end ≤ with_symbol n end s
+with_above : (n end : ℕ) (s : KeptSymbol) → end ≤ with_symbol n end s
 with_above n end s = chosen (is_in n s)
   where
     chosen : (b : Bool) → end ≤ (if b then box_end end (box_of s) else end)
@@ -243,10 +243,10 @@ kind_home Bss n e = grind arith
 kind_home NoptrBss n e = grind arith
 kind_home TlsBss n e = cc
 
-pub home_known : (s : Symbol) (n : ℕ) → home_of s ≡ Some n → (text ≤ n) × (n ≤ noptrbss)
+pub home_known : (s : KeptSymbol) (n : ℕ) → home_of s ≡ Some n → (text ≤ n) × (n ≤ noptrbss)
 home_known s n e = cases s.kind e
   where
-    cases : (k : Option SymKind) → home_of (record { kind = k; align = s.align; size = s.size; name = s.name }) ≡ Some n → (text ≤ n) × (n ≤ noptrbss)
+    cases : (k : Option SymKind) → home_of (record { kind = k; align = s.align; size = s.size; name_len = s.name_len }) ≡ Some n → (text ≤ n) × (n ≤ noptrbss)
     cases None e = cc
     cases (Some kind) e = kind_home kind n e
 

@@ -6,7 +6,7 @@ use Rattle.std.proofs.lemmas.Bool.{cases_lt}
 use Rattle.std.proofs.lemmas.List.{get_or-set_same, get_or-set_other, get_or-map, length-map}
 use Rattle.std.proofs.lemmas.List.Sums.{sum_by_more}
 use Rattle.glk_base.specs.Multiples.{IsLeastMultiple}
-use Rattle.glk_layout.specs.declared.input.Symbol.{Symbol}
+use Rattle.glk_layout.specs.declared.input.KeptSymbol.{KeptSymbol}
 use Rattle.glk_layout.specs.declared.input.MadeContent.{MadeContent}
 use Rattle.glk_layout.specs.Boxes.{Box, no_box, box_address, end_after, address_in}
 use Rattle.glk_layout.specs.Symbols.{is_in, box_of, boxes_in}
@@ -16,20 +16,20 @@ use Rattle.glk_layout.proofs.Boxing.{with_symbol, symbols_more, end_more, least_
 -- Symbols of section n.
 
 -- the address of symbol k where it is in the section, else what was there
-abbrev pub place_value : ℕ → ℕ → List Symbol → ℕ → ℕ → ℕ
+abbrev pub place_value : ℕ → ℕ → List KeptSymbol → ℕ → ℕ → ℕ
 place_value n start symbols k old =
     if is_in n (get_or symbols k no_symbol)
     then box_address (end_after start (boxes_in n (take k symbols))) (box_of (get_or symbols k no_symbol))
     else old
 
 -- the first i symbols are placed
-pub record SymbolsTo (n start : ℕ) (symbols : List Symbol) (old now : List ℕ) (i end : ℕ) : Type 0 where
+pub record SymbolsTo (n start : ℕ) (symbols : List KeptSymbol) (old now : List ℕ) (i end : ℕ) : Type 0 where
   pub ends : end ≡ end_after start (boxes_in n (take i symbols))
   pub small : end ≤ start + i * 2 ^ 33
   pub placed : (k : ℕ) → k < i → get_or now k 0 ≡ place_value n start symbols k (get_or old k 0)
   pub rest : (k : ℕ) → i ≤ k → get_or now k 0 ≡ get_or old k 0
 
-pub symbols_step : (n start : ℕ) (symbols : List Symbol) (old now : List ℕ) (i end after place : ℕ) → i < length symbols → i < length now
+pub symbols_step : (n start : ℕ) (symbols : List KeptSymbol) (old now : List ℕ) (i end after place : ℕ) → i < length symbols → i < length now
     → SymbolsTo n start symbols old now i end
     → after ≡ with_symbol n end (get_or symbols i no_symbol)
     → place ≡ (if is_in n (get_or symbols i no_symbol) then box_address end (box_of (get_or symbols i no_symbol)) else get_or now i 0)

@@ -10,7 +10,7 @@ use Rattle.glk_base.specs.Multiples.{IsLeastMultiple}
 use Rattle.glk_elf.specs.Sections.{text, rodata, bss, noptrbss, tbss}
 use Rattle.glk_elf.specs.Image.{multiple_from, page_size}
 use Rattle.glk_elf.specs.Placing.{text_start, start_multiple, section_align}
-use Rattle.glk_layout.specs.declared.input.Symbol.{Symbol}
+use Rattle.glk_layout.specs.declared.input.KeptSymbol.{KeptSymbol}
 use Rattle.glk_layout.specs.declared.input.Contents.{Contents}
 use Rattle.glk_layout.specs.Boxes.{box_address, end_after, address_in}
 use Rattle.glk_layout.specs.Symbols.{is_in, home_of, box_of, boxes_in, alignment_of, data_align, text_align}
@@ -38,7 +38,7 @@ chosen_some true true align size h = omega arith
 chosen_some true false align size h = data_some size
 chosen_some false t align size h = h refl
 
-pub alignment_some : (s : Symbol) → 0 < alignment_of s
+pub alignment_some : (s : KeptSymbol) → 0 < alignment_of s
 unfolding alignment_of
 alignment_some s = chosen_some (s.align == 0) (is_in text s) s.align s.size (λ e. grind (arith, nat_tests))
 
@@ -49,7 +49,7 @@ multiple_some false = omega arith
 pub start_some : (n : ℕ) → 0 < start_multiple n
 start_some n = multiple_some _
 
-pub symbols_aligned : (n : ℕ) (symbols : List Symbol) → All (λ b. 0 < b.align) (boxes_in n symbols)
+pub symbols_aligned : (n : ℕ) (symbols : List KeptSymbol) → All (λ b. 0 < b.align) (boxes_in n symbols)
 unfolding boxes_in
 symbols_aligned n symbols =
     All-map (λ b. 0 < b.align) box_of (filter (is_in n) symbols)

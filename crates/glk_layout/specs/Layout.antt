@@ -5,7 +5,7 @@ use Rattle.std.specs.List.{sum_by}
 use Rattle.glk_elf.specs.Sections.{text, rodata, typelink, itablink, gopclntab, go_module, bss, tbss, placed_sections}
 use Rattle.glk_elf.specs.Image.{multiple_from}
 use Rattle.glk_elf.specs.Placing.{text_start, start_multiple, of_section, ArePlaced}
-use Rattle.glk_layout.specs.declared.input.Symbol.{Symbol}
+use Rattle.glk_layout.specs.declared.input.KeptSymbol.{KeptSymbol}
 use Rattle.glk_layout.specs.declared.input.MadeContent.{MadeContent}
 use Rattle.glk_layout.specs.declared.input.Tables.{Tables}
 use Rattle.glk_layout.specs.declared.input.Contents.{Contents}
@@ -55,11 +55,11 @@ section_address c n = if n == tbss then section_start c bss else section_start c
 abbrev pub section_size : Contents → ℕ → ℕ
 section_size c n = if n == tbss then c.tables.tbss else section_end c n - section_start c n
 
-abbrev pub no_symbol : Symbol
-no_symbol = record { kind = None; align = 0; size = 0; name = 0 }
+abbrev pub no_symbol : KeptSymbol
+no_symbol = record { kind = None; align = 0; size = 0; name_len = 0 }
 
 -- the symbol of an index in load order
-abbrev pub symbol_at : Contents → ℕ → Symbol
+abbrev pub symbol_at : Contents → ℕ → KeptSymbol
 symbol_at c i = get_or c.symbols.now i no_symbol
 
 -- where the symbols of section n end that come before symbol i

@@ -2,14 +2,14 @@
 use Rattle.std.specs.Prelude.{◌≡◌, ℕ, ◌<◌, ◌==◌, nat_le, if◌then◌else◌, List, length, take, get_or, slice_index, map}
 use Rattle.std.specs.Option.{option_map_or}
 use Rattle.glk_elf.specs.Sections.{rodata}
-use Rattle.glk_layout.specs.declared.input.Symbol.{Symbol}
+use Rattle.glk_layout.specs.declared.input.KeptSymbol.{KeptSymbol}
 use Rattle.glk_layout.specs.declared.input.Contents.{Contents}
 use Rattle.glk_layout.specs.Boxes.{box_address, end_after, address_in}
 use Rattle.glk_layout.specs.Symbols.{is_in, box_of, boxes_in, home_of}
 use Rattle.glk_layout.specs.Layout.{no_symbol, made_box, symbol_at, address_within, made_address}
 
 -- the symbols of section n have their addresses at their indices, from a start on; every other address stays
-abbrev pub PlacesIn : ℕ → ℕ → List Symbol → List ℕ → List ℕ → Type 0
+abbrev pub PlacesIn : ℕ → ℕ → List KeptSymbol → List ℕ → List ℕ → Type 0
 PlacesIn n start symbols old new =
     (i : ℕ) → i < length symbols
     → slice_index new i

@@ -5,7 +5,7 @@ use Rattle.std.specs.List.{sum_by}
 use Rattle.glk_obj.specs.declared.symbols.SymKind.{SymKind}
 use Rattle.glk_obj.specs.declared.symbols.SymKind.TheVariants.{Text, Rodata, NoptrData, Data, Bss, NoptrBss, TlsBss}
 use Rattle.glk_elf.specs.Sections.{text, rodata, noptrdata, written_data, bss, noptrbss}
-use Rattle.glk_layout.specs.declared.input.Symbol.{Symbol}
+use Rattle.glk_layout.specs.declared.input.KeptSymbol.{KeptSymbol}
 use Rattle.glk_layout.specs.Boxes.{Box}
 
 -- the number of the section that holds symbols of a type. The variables of a thread have no symbol with content.
@@ -19,11 +19,11 @@ section_of_kind NoptrBss = Some noptrbss
 section_of_kind TlsBss = None
 
 -- the number of a symbol's section; a made name is in none
-abbrev pub home_of : Symbol → Option ℕ
+abbrev pub home_of : KeptSymbol → Option ℕ
 home_of s = option_and_then section_of_kind s.kind
 
 -- a symbol is in the section of a number
-unfoldable pub is_in : ℕ → Symbol → Bool
+unfoldable pub is_in : ℕ → KeptSymbol → Bool
 is_in n s = option_map_or (λ home. home == n) (home_of s) false
 
 -- a function's alignment where it asks for none, and the least room that it takes
@@ -44,24 +44,24 @@ least_align = 1
 unfoldable pub data_align : ℕ → ℕ
 data_align size = unwrap_or (find (λ align. nat_le align size) data_aligns) least_align
 
-unfoldable pub alignment_of : Symbol → ℕ
+unfoldable pub alignment_of : KeptSymbol → ℕ
 alignment_of s =
     if s.align == 0 then (if is_in text s then text_align else data_align s.size) else s.align
 
-unfoldable pub room_of : Symbol → ℕ
+unfoldable pub room_of : KeptSymbol → ℕ
 room_of s = if is_in text s then max least_room s.size else s.size
 
-abbrev pub box_of : Symbol → Box
+abbrev pub box_of : KeptSymbol → Box
 box_of s = record { align = alignment_of s; room = room_of s }
 
 -- the boxes of a section's symbols, in the order of the list
-unfoldable pub boxes_in : ℕ → List Symbol → List Box
+unfoldable pub boxes_in : ℕ → List KeptSymbol → List Box
 boxes_in n symbols = map box_of (filter (is_in n) symbols)
 
 -- a symbol's name with the zero byte that ends it; none where the symbol has no name
-unfoldable pub name_room : Symbol → ℕ
-name_room s = if s.name == 0 then 0 else s.name + 1
+unfoldable pub name_room : KeptSymbol → ℕ
+name_room s = if s.name_len == 0 then 0 else s.name_len + 1
 
 -- the names of all symbols, with the zero byte that ends each
-unfoldable pub names_length : List Symbol → ℕ
+unfoldable pub names_length : List KeptSymbol → ℕ
 names_length symbols = sum_by name_room symbols

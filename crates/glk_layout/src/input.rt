@@ -4,7 +4,7 @@ use glk_obj::SymKind;
 
 /// A kept symbol, as its place is concerned.
 #[derive(Clone, Copy, Debug, PartialEq, Eq)]
-pub struct Symbol {
+pub struct KeptSymbol {
     /// Its type; None for a made name, which has no content of its own.
     pub kind: Option<SymKind>,
     /// The alignment that it asks for, or 0.
@@ -12,7 +12,7 @@ pub struct Symbol {
     /// Its size in bytes.
     pub size: u32,
     /// The length of its name in bytes.
-    pub name: u32,
+    pub name_len: u32,
 }
 
 /// A content that the link makes itself, in `.rodata` after the symbols.
@@ -38,7 +38,7 @@ pub struct Tables {
 /// and the sizes of the tables.
 #[derive(Clone, Copy, Debug, PartialEq, Eq)]
 pub struct Contents<'a> {
-    pub symbols: &'a [Symbol],
+    pub symbols: &'a [KeptSymbol],
     pub made: &'a [MadeContent],
     pub tables: Tables,
 }

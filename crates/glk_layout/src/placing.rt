@@ -9,7 +9,7 @@ ghost use Rattle.glk_layout.specs.Limits.{excess as excess_of, IsFaultOf};
 ghost use Rattle.glk_layout.specs.Steps.{PlacesIn, PlacesMade, ArePlacedTo};
 ghost use Rattle.glk_layout.specs.Sections.{AreRanges};
 
-use crate::input::{Contents, Symbol};
+use crate::input::{Contents, KeptSymbol};
 use crate::limits::{TooLarge, excess};
 use crate::made::{place_made, table_size};
 use crate::symbols::{home_of, names_length, place_symbols};
@@ -45,7 +45,7 @@ impl Layout {
 }
 
 /// The number of the section that a symbol is in, if it is in one.
-pub fn section_of_symbol(symbol: &Symbol) -> Option<u8>
+pub fn section_of_symbol(symbol: &KeptSymbol) -> Option<u8>
     ensures { result ≡ home_of_symbol symbol.now }
 {
     home_of(symbol)

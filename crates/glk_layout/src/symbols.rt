@@ -7,7 +7,7 @@ ghost use Rattle.glk_layout.specs.Symbols.{section_of_kind, home_of as home_of_s
 ghost use Rattle.glk_layout.specs.Layout.{symbol_limit};
 ghost use Rattle.glk_layout.specs.Steps.{PlacesIn};
 
-use crate::input::Symbol;
+use crate::input::KeptSymbol;
 use glk_base::least_multiple;
 use glk_elf::{Section, TEXT_START};
 use glk_obj::SymKind;
@@ -33,7 +33,7 @@ fn section_number(kind: SymKind) -> Option<u8>
 }
 
 /// The number of a symbol's section, if it is in one.
-pub(crate) fn home_of(symbol: &Symbol) -> Option<u8>
+pub(crate) fn home_of(symbol: &KeptSymbol) -> Option<u8>
     ensures { result ≡ home_of_symbol symbol.now }
 {
     match symbol.kind {
@@ -44,7 +44,7 @@ pub(crate) fn home_of(symbol: &Symbol) -> Option<u8>
 
 // Whether a symbol is in the section of a number.
 #[tactic(auto, unfolding(crate::specs::Symbols::is_in))]
-fn is_home(number: u8, symbol: &Symbol) -> bool
+fn is_home(number: u8, symbol: &KeptSymbol) -> bool
     ensures { result ≡ is_in number symbol.now }
 {
     match home_of(symbol) {
@@ -76,7 +76,7 @@ fn data_align(size: u32) -> u64
 }
 
 #[tactic(auto, unfolding(crate::specs::Symbols::alignment_of))]
-fn alignment(symbol: &Symbol) -> u64
+fn alignment(symbol: &KeptSymbol) -> u64
     ensures value { result ≡ alignment_of symbol.now }
     ensures some { 0 < result }
     ensures small { result < 2 ^ 32 }
@@ -91,7 +91,7 @@ fn alignment(symbol: &Symbol) -> u64
 }
 
 #[tactic(auto, unfolding(crate::specs::Symbols::room_of))]
-fn room(symbol: &Symbol) -> u64
+fn room(symbol: &KeptSymbol) -> u64
     ensures value { result ≡ room_of symbol.now }
     ensures small { result < 2 ^ 32 }
 {
@@ -104,7 +104,7 @@ fn room(symbol: &Symbol) -> u64
 
 // Where section `number` ends after a symbol, the symbols before ending at `end`, and the symbol's
 // place; that stays as it was where the symbol is in another section.
-fn place_symbol(number: u8, symbol: &Symbol, end: u64, place: u64) -> (u64, u64)
+fn place_symbol(number: u8, symbol: &KeptSymbol, end: u64, place: u64) -> (u64, u64)
     requires low { end ≤ 2 ^ 63 }
     ensures end { result.0 ≡ (if is_in number symbol.now then box_end end (box_of symbol.now) else end) }
     ensures place { result.1 ≡ (if is_in number symbol.now then box_address end (box_of symbol.now) else place) }
@@ -119,7 +119,12 @@ fn place_symbol(number: u8, symbol: &Symbol, end: u64, place: u64) -> (u64, u64)
 
 /// Places the symbols of section `number` from `start` on, in load order: each has its address at its
 /// index. Answers where they end. One pass over all symbols.
-pub(crate) fn place_symbols(symbols: &[Symbol], number: u8, start: u64, places: &mut [u64]) -> u64
+pub(crate) fn place_symbols(
+    symbols: &[KeptSymbol],
+    number: u8,
+    start: u64,
+    places: &mut [u64],
+) -> u64
     requires few { length symbols.now ≤ symbol_limit }
     requires same { length places.old ≡ length symbols.now }
     requires low { start ≤ 2 ^ 62 }
@@ -138,7 +143,7 @@ pub(crate) fn place_symbols(symbols: &[Symbol], number: u8, start: u64, places: 
 
 /// Where the functions among these symbols end in memory: the end of `.text`. The made contents of
 /// `.rodata` may depend on it.
-pub fn text_end(symbols: &[Symbol]) -> u64
+pub fn text_end(symbols: &[KeptSymbol]) -> u64
     requires { length symbols.now ≤ symbol_limit }
     ensures { result ≡ end_after text_start (boxes_in text symbols.now) }
 {
@@ -151,20 +156,20 @@ pub fn text_end(symbols: &[Symbol]) -> u64
 
 // The length of a symbol's name with the zero byte that ends it.
 #[tactic(auto, unfolding(crate::specs::Symbols::name_room))]
-fn name_room(symbol: &Symbol) -> u64
+fn name_room(symbol: &KeptSymbol) -> u64
     ensures value { result ≡ name_room_of symbol.now }
     ensures small { result ≤ 2 ^ 32 }
 {
-    if symbol.name == 0 {
+    if symbol.name_len == 0 {
         0
     } else {
-        symbol.name as u64 + 1
+        symbol.name_len as u64 + 1
     }
 }
 
 /// The length of the names of all symbols, with the zero byte that ends each.
 #[tactic(auto, unfolding(crate::specs::Symbols::names_length))]
-pub(crate) fn names_length(symbols: &[Symbol]) -> u64
+pub(crate) fn names_length(symbols: &[KeptSymbol]) -> u64
     requires { length symbols.now ≤ symbol_limit }
     ensures { result ≡ names_length_of symbols.now }
 {

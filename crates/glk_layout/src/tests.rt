@@ -1,5 +1,5 @@
 // What takes memory, once with memory: places that follow from the rules by hand.
-use crate::{Contents, Layout, MadeContent, SizeLimit, Symbol, Tables, TooLarge, place};
+use crate::{Contents, KeptSymbol, Layout, MadeContent, SizeLimit, Tables, TooLarge, place};
 use glk_base::Fault;
 use glk_obj::SymKind;
 use std::alloc::Global;
@@ -13,17 +13,17 @@ const NO_TABLES: Tables = Tables {
     tbss: 8,
 };
 
-fn symbol(kind: Option<SymKind>, align: u32, size: u32, name: u32) -> Symbol {
-    Symbol {
+fn symbol(kind: Option<SymKind>, align: u32, size: u32, name_len: u32) -> KeptSymbol {
+    KeptSymbol {
         kind,
         align,
         size,
-        name,
+        name_len,
     }
 }
 
 // Where these symbols are, with two made contents.
-fn addresses(alloc: Global, symbols: &[Symbol]) -> Option<Result<Layout, TooLarge>> {
+fn addresses(alloc: Global, symbols: &[KeptSymbol]) -> Option<Result<Layout, TooLarge>> {
     if symbols.len() > 1000 {
         return None;
     }
@@ -44,7 +44,7 @@ fn addresses(alloc: Global, symbols: &[Symbol]) -> Option<Result<Layout, TooLarg
 }
 
 // Two functions, data of each kind between them, and a made name.
-fn some_symbols() -> [Symbol; 9] {
+fn some_symbols() -> [KeptSymbol; 9] {
     [
         symbol(Some(SymKind::Text), 0, 5, 9),
         symbol(Some(SymKind::Rodata), 0, 24, 4),
@@ -92,7 +92,7 @@ fn symbols_have_their_places(rt: HostRuntime) -> Result<(), Fail> {
 
 #[test]
 fn the_first_limit_is_told(rt: HostRuntime) {
-    for (kind, size, name, limit, number) in [
+    for (kind, size, name_len, limit, number) in [
         (
             SymKind::Data,
             u32::MAX,
@@ -102,7 +102,7 @@ fn the_first_limit_is_told(rt: HostRuntime) {
         ),
         (SymKind::Bss, 0, u32::MAX, SizeLimit::Names, 1 << 32),
     ] {
-        match addresses(rt.alloc(), &[symbol(Some(kind), 0, size, name)]) {
+        match addresses(rt.alloc(), &[symbol(Some(kind), 0, size, name_len)]) {
             Some(Err(refusal)) => assert_eq!(rt; refusal, TooLarge { limit, number }),
             _ => assert!(rt; false),
         }

@@ -1,14 +1,10 @@
-use Rattle.std.proofs.Common.{ℕ, ℤ, ◌≡◌, ◌+◌, ◌^◌, ◌<◌, ◌≤◌, List, [], ◌++◌, length, pos, to_z, of_z, refl, sym, ap, ◌∙◌, subst, arith, rules}
-use Rattle.std.specs.Prelude.{All, FitsSigned, Err, Ok}
+use Rattle.std.proofs.Common.{ℕ, ℤ, ◌≡◌, ◌+◌, ◌^◌, ◌<◌, ◌≤◌, [], ◌++◌, length, sym, ap, ◌∙◌, subst, arith, rules}
+use Rattle.std.specs.Prelude.{All, FitsSigned, Err}
 use Rattle.std.specs.Int.{w128}
 use Rattle.std.specs.Vec.{vec_len}
 use Rattle.std.proofs.lemmas.Bool.{eqb-true}
 use Rattle.std.proofs.lemmas.Int.{to_z-of_z}
-use Rattle.std.proofs.lemmas.List.{length-append}
-use Rattle.glk_reloc.specs.declared.fields.Field.{Field}
-use Rattle.glk_reloc.specs.declared.fields.Overflow.{Overflow}
-use Rattle.glk_reloc.specs.Fields.{IsSized, IsWithin, AreApart, IsFirstOverflow}
-use Rattle.glk_reloc.specs.Halves.{later_by}
+use Rattle.glk_reloc.specs.Fields.{IsSized, IsWithin}
 use Rattle.glk_reloc.proofs.Cuts.{index_below}
 use Rattle.glk_reloc.proofs.ChunkSteps.{to_none, to_next, chunk_all, chunk_apart, chunk_count, first_of_all, outside_chunk, outside_so_far, all_room, all_patched, none_left, some_left, not_none}
 use Rattle.glk_reloc.proofs.chunks.patch_chunks.Goals as goal
