@@ -8,4 +8,5 @@ pub mod RelocFaults
 pub mod Reasons
 pub mod Faults
 pub mod Reached
+pub mod Views
 pub mod Laws

@@ -3,5 +3,9 @@
 #![tactic(auto)]
 
 mod laws;
+mod symbols;
 
 pub use laws::{first_faults_are_first, reach_faults_are_one};
+pub use symbols::{
+    RowRelocations, calls_by_reflection, data, is_defined, is_interface_table, is_type,
+};
