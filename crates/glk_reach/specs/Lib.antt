@@ -8,5 +8,6 @@ pub mod RelocFaults
 pub mod Reasons
 pub mod Faults
 pub mod Reached
+pub mod RelocationLists
 pub mod Views
 pub mod Laws

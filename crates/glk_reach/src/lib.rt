@@ -3,9 +3,11 @@
 #![tactic(auto)]
 
 mod laws;
+mod relocations;
 mod symbols;
 
 pub use laws::{first_faults_are_first, reach_faults_are_one};
+pub use relocations::RowRelocations;
 pub use symbols::{
-    RowRelocations, calls_by_reflection, data, is_defined, is_interface_table, is_type,
+    calls_by_reflection, data, is_defined, is_interface_table, is_type, key_relocations,
 };

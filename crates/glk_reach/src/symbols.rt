@@ -1,19 +1,20 @@
 // The symbols of a merged program, by their keys.
-ghost use Rattle.std.specs.Prelude.{◌≡◌, ◌<◌, ◌^◌, ℕ, List, length, Some, slice_get};
+ghost use Rattle.std.specs.Prelude.{◌≡◌, ◌<◌};
 ghost use Rattle.glk_keys.specs.Rows.{row_count};
 ghost use Rattle.glk_merge.specs.Accessors.{row_numbers};
 ghost use Rattle.glk_merge.specs.Mergings.{IsDefinitionRow, IsRow};
 ghost use Rattle.glk_obj.specs.declared.kinds.RelocKind.TheVariants.{MethodOff};
-ghost use Rattle.glk_reach.specs.Chosen.{chosen_row, definition_row, is_defined as is_defined_in, is_type as is_type_in, is_interface_table as is_interface_table_in, calls_by_reflection as calls_by_reflection_in, content_of, row_relocations, target_symbol as target_symbol_of};
+ghost use Rattle.glk_reach.specs.Chosen.{chosen_row, definition_row, is_defined as is_defined_in, is_type as is_type_in, is_interface_table as is_interface_table_in, calls_by_reflection as calls_by_reflection_in, content_of, target_symbol as target_symbol_of};
 ghost use Rattle.glk_reach.specs.RelocKinds.{is_kind};
+ghost use Rattle.glk_reach.specs.RelocationLists.{AreRelocationsOf};
 ghost use Rattle.glk_reach.specs.Views.{IsDefinition};
-ghost use Rattle.glk_readings.specs.declared.symbols.Relocation.{Relocation};
 
+use crate::relocations::RowRelocations;
 use glk_base::{KeyId, SymId};
 use glk_keys::Target;
 use glk_merge::Merged;
 use glk_obj::RelocKind;
-use glk_readings::{Relocation, Relocations, TargetSymbol};
+use glk_readings::TargetSymbol;
 
 // The row of the chosen definition of a key, a made name's among them.
 #[tactic(auto, unfolding(crate::specs::Chosen::chosen_row))]
@@ -99,7 +100,7 @@ pub fn data<'a>(merged: &Merged<'a>, key: u32) -> &'a [u8]
 }
 
 // The symbol that is meant, if one is.
-fn target_symbol(target: Target) -> Option<TargetSymbol>
+pub(crate) fn target_symbol(target: Target) -> Option<TargetSymbol>
     ensures { result ≡ target_symbol_of target }
 {
     match target {
@@ -110,7 +111,7 @@ fn target_symbol(target: Target) -> Option<TargetSymbol>
 }
 
 // Whether a relocation is a METHODOFF.
-fn is_methodoff(kind: Option<RelocKind>) -> bool
+pub(crate) fn is_methodoff(kind: Option<RelocKind>) -> bool
     ensures { result ≡ is_kind MethodOff kind }
 {
     match kind {
@@ -119,27 +120,14 @@ fn is_methodoff(kind: Option<RelocKind>) -> bool
     }
 }
 
-/// The relocations of a definition, as they are read.
-pub struct RowRelocations<'m, 'a> {
-    merged: &'m Merged<'a>,
-    id: SymId,
-    ghost definition: { IsDefinitionRow merged.now.program id.0 },
-}
-
-impl Relocations for RowRelocations<'_, '_> {
-    ghost list = { λ s. row_relocations s.merged.now.program s.id.0 };
-
-    fn count(&self) -> u32 {
-        self.merged.relocs(self.id)
-    }
-
-    fn reloc(&self, i: u32) -> Relocation {
-        let reloc = self.merged.reloc(self.id, i);
-        Relocation {
-            offset: reloc.field_start(),
-            addend: reloc.add,
-            target: target_symbol(self.merged.reloc_target(self.id, i)),
-            is_methodoff: is_methodoff(self.merged.reloc_kind(self.id, i)),
-        }
+/// The relocations of a key, where it has a definition in an object.
+#[tactic(auto, unfolding(crate::specs::Chosen::relocations_of))]
+pub fn key_relocations<'m, 'a>(merged: &'m Merged<'a>, key: u32) -> Option<RowRelocations<'m, 'a>>
+    requires { key < row_count merged.now.program }
+    ensures { AreRelocationsOf merged.now.program key result }
+{
+    match definition(merged, key) {
+        Some(id) => Some(RowRelocations { merged, id }),
+        None => None,
     }
 }
