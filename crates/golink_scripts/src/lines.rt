@@ -161,24 +161,10 @@ fn check(alloc: Global, stage: &mut Stage, verb: &str, words: &[Word]) -> Result
             ended.listed = wanted;
             equal(alloc, wanted, ended.failed)
         }
-        ("is", [name, value @ ..]) => {
-            let wanted = stage.value(alloc, value)?;
-            same(
-                alloc,
-                wanted.as_slice(),
-                stage.checked(alloc, name.text())?,
-                0,
-            )
-        }
+        ("is", [name, value @ ..]) => is(alloc, stage, name.text(), value),
         ("at", [name, offset, value @ ..]) => {
-            let wanted = stage.some_value(alloc, value)?;
             let offset = number(alloc, offset.text())?;
-            is_at(
-                alloc,
-                wanted.as_slice(),
-                stage.checked(alloc, name.text())?,
-                offset,
-            )
+            is_at(alloc, stage, name.text(), offset, value)
         }
         ("length", [name, wanted]) => {
             let wanted = number(alloc, wanted.text())?;
@@ -188,24 +174,8 @@ fn check(alloc: Global, stage: &mut Stage, verb: &str, words: &[Word]) -> Result
                 stage.checked(alloc, name.text())?.len() as u64,
             )
         }
-        ("has", [name, value @ ..]) => {
-            let wanted = stage.some_value(alloc, value)?;
-            holds(
-                alloc,
-                wanted.as_slice(),
-                stage.checked(alloc, name.text())?,
-                true,
-            )
-        }
-        ("lacks", [name, value @ ..]) => {
-            let wanted = stage.some_value(alloc, value)?;
-            holds(
-                alloc,
-                wanted.as_slice(),
-                stage.checked(alloc, name.text())?,
-                false,
-            )
-        }
+        ("has", [name, value @ ..]) => has(alloc, stage, name.text(), value, true),
+        ("lacks", [name, value @ ..]) => has(alloc, stage, name.text(), value, false),
         ("absent", [name]) => match stage.bytes(name.text()) {
             Some(_) => Err(Stop::because(alloc, "wanted no file, found one")),
             None => Ok(()),
@@ -224,11 +194,42 @@ fn equal(alloc: Global, wanted: u64, found: u64) -> Result<(), Stop>
     Err(Stop::Line(format!(in alloc; "wanted {wanted}, found {found}")?))
 }
 
-// Bytes are at an offset of others.
-fn is_at(alloc: Global, wanted: &[u8], bytes: &[u8], offset: usize) -> Result<(), Stop> {
+// A file is these bytes.
+fn is(alloc: Global, stage: &mut Stage, name: &str, value: &[Word]) -> Result<(), Stop> {
+    let wanted = stage.value(alloc, value)?;
+    same(alloc, wanted.as_slice(), stage.checked(alloc, name)?, 0)
+}
+
+// These bytes are at an offset of a file.
+fn is_at(
+    alloc: Global,
+    stage: &mut Stage,
+    name: &str,
+    offset: usize,
+    value: &[Word],
+) -> Result<(), Stop> {
+    let wanted = stage.some_value(alloc, value)?;
+    let bytes = stage.checked(alloc, name)?;
     let rest = bytes.get(offset..).unwrap_or(&[]);
     let found = rest.get(..wanted.len()).unwrap_or(rest);
-    same(alloc, wanted, found, offset)
+    same(alloc, wanted.as_slice(), found, offset)
+}
+
+// These bytes are somewhere in a file, or nowhere.
+fn has(
+    alloc: Global,
+    stage: &mut Stage,
+    name: &str,
+    value: &[Word],
+    is_wanted: bool,
+) -> Result<(), Stop> {
+    let wanted = stage.some_value(alloc, value)?;
+    holds(
+        alloc,
+        wanted.as_slice(),
+        stage.checked(alloc, name)?,
+        is_wanted,
+    )
 }
 
 // Bytes are somewhere in others, or nowhere.
