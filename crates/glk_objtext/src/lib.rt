@@ -19,7 +19,9 @@ mod values;
 mod words;
 mod write;
 
-pub use glk_objdesc::{AutolibDesc, DefDesc, ObjDesc, RefNameDesc, SymDesc, describe, write_object};
+pub use glk_objdesc::{
+    AutolibDesc, DefDesc, ObjDesc, RefNameDesc, SymDesc, describe, write_object,
+};
 pub use laws::{printed_is_read, spellings_read_back, text_reads_back};
 pub use read::{TextBad, parse};
 pub use write::print;
