@@ -4,7 +4,7 @@ use Rattle.std.specs.Fmt.{signed_decimal}
 use Rattle.hex.specs.Hex.{encode_lower}
 use Rattle.glk_cause.specs.declared.cause.Cause.{Cause}
 use Rattle.glk_cause.specs.declared.cause.Cause.TheVariants as cause
-use Rattle.glk_io.specs.Changes.{SinkState, SinkUnchanged, SinkAppends, SinkFails}
+use Rattle.glk_io.specs.Changes.{SinkState, SinkUnchanged}
 use Rattle.glk_messages.specs.Names.{form_text, why_text, family_letter, limit_text, table_text}
 use Rattle.glk_messages.specs.Lines.{line_of, ReportsLine}
 use Rattle.glk_messages.specs.declared.outcome.Outcome.{Outcome}
