@@ -206,7 +206,7 @@ fn clash_of_x<R: Threads + Sync>(
     match merged(rt, alloc, loaded, &builtins, workers, &Open)? {
         Ok(_) => Err(Fail::from("no clash")),
         Err(clash) => {
-            if clash.name.as_bytes() == b"x" {
+            if clash.name.as_bytes() == b"x".as_slice() {
                 Ok((clash.first.0, clash.second.0))
             } else {
                 Err(Fail::from("another name"))
