@@ -2,7 +2,8 @@
 //!
 //! `value` says which number a relocation writes and `fits` whether its field has room for it.
 //! `patch` writes one field, and `patch_all` those of a whole image, in parts that share no byte.
-//! Nothing here takes memory.
+//! `patch_chunks` writes fields that are made chunk after chunk, and holds one chunk; nothing else
+//! here takes memory.
 #![tactic(auto)]
 
 mod chunks;
