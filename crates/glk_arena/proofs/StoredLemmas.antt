@@ -85,8 +85,8 @@ stored_more file kept now objects i object h l read same holds before all more =
     let cut : take (i + 1) objects ≡ take i objects ++ object ∷ [] = rw (add-one i) (take-suc objects i object l ∙ ap (λ o. take i objects ++ o ∷ []) (sym read)) in
     let P : List StoredObject → Type 0 = λ hs. All (IsStored file) hs in (
       ap (map (stored_data file)) more ∙ map-append (stored_data file) kept (h ∷ []) ∙ ap (λ os. os ++ stored_data file h ∷ []) before
-      ∙ ap (λ o. map (λ q. q.goobj) (take i objects) ++ o ∷ []) same
-      ∙ sym (map-append (λ o. o.goobj) (take i objects) (object ∷ [])) ∙ ap (map (λ o. o.goobj)) (sym cut),
+          ∙ ap (λ o. map (λ q. q.goobj) (take i objects) ++ o ∷ []) same
+          ∙ sym (map-append (λ o. o.goobj) (take i objects) (object ∷ [])) ∙ ap (map (λ o. o.goobj)) (sym cut),
       subst P (sym more) (All-append (IsStored file) kept (h ∷ []) all (All-cons (IsStored file) h [] holds (All-nil (IsStored file)))),
     )
 

@@ -95,12 +95,7 @@ fn differs(list: &Loaded, names: &PackagePaths, import: ImportEntry<'_>) -> bool
 }
 
 // Whether an import is compared with the wave after the first `earlier` paths, and differs.
-fn is_refused(
-    list: &Loaded,
-    names: &PackagePaths,
-    earlier: usize,
-    import: ImportEntry<'_>,
-) -> bool
+fn is_refused(list: &Loaded, names: &PackagePaths, earlier: usize, import: ImportEntry<'_>) -> bool
     requires { paths_of list.now ≡ names.now }
     ensures { result ≡ is_refused list.now names.now earlier (import_view import.entry) }
 {

@@ -35,7 +35,7 @@ invariant_of-result c =
     (c.in_ok-push.ensures.items ∙ ap (λ (k : ℕ). c.self.inside.firsts.items ++ k ∷ []) first) c.in_ok-push-2.ensures.items
     (omega (arith, c.bytes-more_bytes.ensures)) (omega (arith, c.symbols-more_symbols.ensures)) in
     let I : List Package → Type 0 = λ w. IsIndexed w c.resize.new.self.items c.push.new.self.items c.push-2.new.self.items (c.self.inside.bytes + c.bytes-more_bytes.result) (c.self.inside.symbols + c.symbols-more_symbols.result)
-        c.in_ok-header.header c.first_of-width.result c.add.new.self in
+    c.in_ok-header.header c.first_of-width.result c.add.new.self in
     let header : c.in_ok-header.header ≡ first_header (world ++ c.args.last ∷ []) =
     c.in_ok-header.ensures ∙ ap (λ o. option_or o (option_copied c.header.result)) c.self.invariant.header_is ∙ ap (option_or (first_header world)) c.header.ensures
     ∙ sym (header_push world c.args.last) in
