@@ -23,7 +23,7 @@ mod write;
 pub use laws::{images_read_back, memory_within, sections_in_file, sections_patched};
 pub use layout::{IMAGE_BASE, TEXT_START};
 pub use parts::{ElfParts, SectionBytes, SectionPart, SymRow};
-pub use placing::assign_addresses;
+pub use placing::{assign_addresses, start_multiple};
 pub use read::{ElfBad, ElfSection, ElfSym, ElfView};
 pub use sections::{PLACED_SECTIONS, Section};
 pub use write::{image_size, write_elf};
