@@ -78,7 +78,8 @@ fn store_list(
     objects: &[ObjectEntry<'_>],
 ) -> Result<Vec<StoredObject>, OutOfMemory>
     requires { All (IsFoundIn file.now) objects.now }
-    ensures same { IfOk result (λ list. map (stored_data file.now) list.items ≡ map (λ o. o.goobj) objects.now) }
+    ensures same { IfOk result (λ list.
+        map (stored_data file.now) list.items ≡ map (λ o. o.goobj) objects.now) }
     ensures stored { IfOk result (λ list. All (IsStored file.now) list.items) }
 {
     let mut list = Vec::with_capacity(alloc, objects.len())?;

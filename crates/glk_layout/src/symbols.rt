@@ -107,7 +107,8 @@ fn room(symbol: &KeptSymbol) -> u64
 fn place_symbol(number: u8, symbol: &KeptSymbol, end: u64, place: u64) -> (u64, u64)
     requires low { end ≤ 2 ^ 63 }
     ensures end { result.0 ≡ (if is_in number symbol.now then box_end end (box_of symbol.now) else end) }
-    ensures place { result.1 ≡ (if is_in number symbol.now then box_address end (box_of symbol.now) else place) }
+    ensures place { result.1
+        ≡ (if is_in number symbol.now then box_address end (box_of symbol.now) else place) }
     ensures small { result.0 ≤ end + 2 ^ 33 }
 {
     if !is_home(number, symbol) {
