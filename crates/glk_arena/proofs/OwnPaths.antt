@@ -1,6 +1,5 @@
 -- The paths of loaded packages: no two are one, and the first is the main file's.
 use Rattle.std.proofs.Common.{◌≡◌, ◌∙◌, ◌<◌, ◌++◌, ◌||◌, ℕ, zero, suc, Bool, true, false, true≢false, List, [], ◌∷◌, length, length-append, get_or, map, Option, Some, None, Result, Ok, Err, refl, sym, ap, subst, arith}
-use Rattle.std.specs.List.{AllPairs}
 use Rattle.std.specs.Str.{bytes_eq}
 use Rattle.std.specs.Cmp.Lexicographic.{bytes_decides}
 use Rattle.std.proofs.lemmas.List.{map-append, get_or_append_left}
@@ -9,7 +8,7 @@ use Rattle.glk_io.specs.Contents.{Contents}
 use Rattle.glk_cause.specs.declared.cause.Cause.{Cause}
 use Rattle.glk_arena.specs.World.{Package, paths_of}
 use Rattle.glk_arena.specs.Imports.{is_among, imports_of}
-use Rattle.glk_arena.specs.Waves.{LoadInputs, Wave, Loads, refused, last, crowded, further, IsLoad, is_known, first_uses, first_wave, next_wave, main_package, runtime_package, AreOwnPaths, HasOwnPaths}
+use Rattle.glk_arena.specs.Waves.{LoadInputs, Wave, Loads, refused, last, crowded, further, is_known, first_wave, next_wave, main_package, runtime_package, AreOwnPaths, HasOwnPaths}
 use Rattle.glk_arena.proofs.ImportLemmas.{grown, grown_passed, grown_new, grown_nil, not_among}
 use Rattle.glk_arena.proofs.WaveSteps.{first_alone, first_listed}
 use Rattle.glk_arena.proofs.SomeLoad.{wave_paths}

@@ -38,7 +38,7 @@ use Rattle.glk_arena.proofs.ReadLemmas.{main_lies, other_lies}
 use Rattle.glk_arena.proofs.FormatLemmas.{formats_paths}
 use Rattle.glk_arena.proofs.ImportRefLemmas.{imports_append, refs_long}
 use Rattle.std.proofs.lemmas.List.{drop-map}
-use Rattle.glk_arena.specs.WaveLoop.{IsKnown, LoadsOn, IsLoading, IsWaveOf}
+use Rattle.glk_arena.specs.WaveLoop.{IsKnown, LoadsOn, IsBetweenWaves, AddsPackages}
 use Rattle.glk_arena.proofs.ImportLemmas.{missing_is, grown, grown_passed, grown_new, grown_nil}
 
 -- the first wave
@@ -318,7 +318,7 @@ unequal_same list wave names compared paths earlier clean within closed =
     ∙ ap (λ before. option_map refusal (find (test before names) (drop compared (imports_of world)))) earlier
 
 pub wave_read : (inputs : LoadInputs) (contents : Option Contents) (names : List (List ℕ)) (list now : List Package) (refs : List ImportRef) (compared : ℕ)
-    → IsLoading inputs contents names list refs compared → (r : ReadsWave inputs contents list (drop (length list) names) now)
+    → IsBetweenWaves inputs contents names list refs compared → (r : ReadsWave inputs contents list (drop (length list) names) now)
     → IsReadWave inputs names list r.adds.wave now compared (length refs)
 wave_read inputs contents names list now refs compared s r = record {
   now_is = r.adds.now_is;
@@ -367,10 +367,10 @@ next_of list wave names e = ap (λ ns. first_uses ns (names_in (imports_of wave)
 
 -- the wave has no refusal, and the next is listed
 pub wave_done : (inputs : LoadInputs) (contents : Option Contents) (names more : List (List ℕ)) (list now : List Package) (refs refs' : List ImportRef) (compared : ℕ)
-    → IsLoading inputs contents names list refs compared → ReadsWave inputs contents list (drop (length list) names) now → AreImportsOf now now refs' → length refs ≤ length refs'
+    → IsBetweenWaves inputs contents names list refs compared → ReadsWave inputs contents list (drop (length list) names) now → AreImportsOf now now refs' → length refs ≤ length refs'
     → None ≡ import_refusal_of now inputs.listed names (length list) compared (length refs)
     → more ≡ names ++ first_uses names (drop (length refs) (names_in (imports_of now)))
-    → IsWaveOf inputs contents names list (length refs) more refs' now
+    → AddsPackages inputs contents names list (length refs) more refs' now
 wave_done inputs contents names more list now refs refs' compared s r are longer none listed = record {
   wave = r.adds.wave;
   now_is = r.adds.now_is;
@@ -413,7 +413,7 @@ wave_done inputs contents names more list now refs refs' compared s r are longer
 -- the wave has a refusal
 
 pub wave_faulted : (inputs : LoadInputs) (old new : FileState) (names : List (List ℕ)) (list : List Package) (refs : List ImportRef) (compared : ℕ) (f : Fault Cause)
-    → IsLoading inputs old.contents names list refs compared → RefusesWave old new inputs list (drop (length list) names) f → RefusesLoad old new inputs f
+    → IsBetweenWaves inputs old.contents names list refs compared → RefusesWave old new inputs list (drop (length list) names) f → RefusesLoad old new inputs f
 wave_faulted inputs old new names list refs compared f s is =
     reading_stopped old new (IsOfPackages inputs) (IsOfPackages inputs) (λ held. Wave inputs held list (drop (length list) names)) (IsLoad inputs) (λ (wave : List Package). wave) (λ (world : List Package). world)
     (λ sort h. h) (always_known _ _ old.contents (λ held more refusal h. more (Err refusal) (refused list (drop (length list) names) refusal h)) s.on) f is
@@ -439,7 +439,7 @@ import_sort None (Some i) print refusal e =
 import_sort None None print refusal e = absurd (cc)
 
 pub wave_refused : (inputs : LoadInputs) (old new : FileState) (names : List (List ℕ)) (list now : List Package) (refs : List ImportRef) (compared : ℕ) (refusal : Cause)
-    → FilesUnchanged old new → IsLoading inputs old.contents names list refs compared → ReadsWave inputs old.contents list (drop (length list) names) now
+    → FilesUnchanged old new → IsBetweenWaves inputs old.contents names list refs compared → ReadsWave inputs old.contents list (drop (length list) names) now
     → Some refusal ≡ import_refusal_of now inputs.listed names (length list) compared (length refs)
     → RefusesLoad old new inputs (fault.Bad refusal)
 wave_refused inputs old new names list now refs compared refusal same s r some =
@@ -461,14 +461,14 @@ no_known : (names : List (List ℕ)) → All (IsKnown names) (imports_of [])
 unfolding imports_of
 no_known names = All-nil (IsKnown names)
 
-pub loading_start : (inputs : LoadInputs) (contents : Option Contents) (names : List (List ℕ)) → names ≡ first_wave inputs.listed → IsLoading inputs contents names [] [] 0
+pub loading_start : (inputs : LoadInputs) (contents : Option Contents) (names : List (List ℕ)) → names ≡ first_wave inputs.listed → IsBetweenWaves inputs contents names [] [] 0
 loading_start inputs contents names first = by_listed (inputs.listed runtime_package) refl where
   on : LoadsOn inputs contents [] names
   on = always contents (λ held answer h. subst (λ (ns : List (List ℕ)). Loads inputs held [] ns answer) first h)
 
-  start : (ns : List (List ℕ)) → names ≡ ns → 0 < length ns → length ns ≤ package_limit → is_among ns unsafe_package ≡ false → All (HasFile inputs) ns → IsLoading inputs contents names [] [] 0
+  start : (ns : List (List ℕ)) → names ≡ ns → 0 < length ns → length ns ≤ package_limit → is_among ns unsafe_package ≡ false → All (HasFile inputs) ns → IsBetweenWaves inputs contents names [] [] 0
   start ns is some few clean files =
-      let I : List (List ℕ) → Type 0 = λ l. LoadsOn inputs contents [] l → IsLoading inputs contents l [] [] 0 in
+      let I : List (List ℕ) → Type 0 = λ l. LoadsOn inputs contents [] l → IsBetweenWaves inputs contents l [] [] 0 in
       subst I (sym is)
       (λ o. record {
         paths = refl;
@@ -487,7 +487,7 @@ loading_start inputs contents names first = by_listed (inputs.listed runtime_pac
   main_file : HasFile inputs main_package
   main_file = inl (main_lies inputs main_package refl)
 
-  by_listed : (o : Option (List ℕ)) → inputs.listed runtime_package ≡ o → IsLoading inputs contents names [] [] 0
+  by_listed : (o : Option (List ℕ)) → inputs.listed runtime_package ≡ o → IsBetweenWaves inputs contents names [] [] 0
   by_listed None e =
       start (main_package ∷ []) (first ∙ first_alone inputs.listed e) (omega arith) (lit≤ tt) refl (All-cons (HasFile inputs) main_package [] main_file (All-nil (HasFile inputs)))
   by_listed (Some file) e =
@@ -497,7 +497,7 @@ loading_start inputs contents names first = by_listed (inputs.listed runtime_pac
 
 -- the next wave holds something, or nothing
 wave_length : (inputs : LoadInputs) (contents : Option Contents) (names more : List (List ℕ)) (list now : List Package) (known : ℕ) (refs' : List ImportRef)
-    → (s : IsWaveOf inputs contents names list known more refs' now)
+    → (s : AddsPackages inputs contents names list known more refs' now)
     → (length names ≡ length list + length s.wave) × (length now ≡ length names) × (length more ≡ length names + length (next_wave list s.wave))
 wave_length inputs contents names more list now known refs' s =
     let long : length now ≡ length list + length s.wave = ap length s.now_is ∙ length-append list s.wave in
@@ -510,7 +510,7 @@ both None p f q = tt
 both (Some held) p f q = f held p q
 
 pub loop_end : (inputs : LoadInputs) (contents : Option Contents) (names more : List (List ℕ)) (list now : List Package) (refs refs' : List ImportRef) (compared : ℕ)
-    → IsLoading inputs contents names list refs compared → IsWaveOf inputs contents names list (length refs) more refs' now → length more ≡ length now
+    → IsBetweenWaves inputs contents names list refs compared → AddsPackages inputs contents names list (length refs) more refs' now → length more ≡ length now
     → IfKnown contents (λ held. IsLoad inputs held (Ok now))
 loop_end inputs contents names more list now refs refs' compared s w e =
     let sizes = wave_length inputs contents names more list now (length refs) refs' w in
@@ -518,7 +518,7 @@ loop_end inputs contents names more list now refs refs' compared s w e =
     both contents w.good (λ held g more. more (Ok now) (subst (λ (a : List Package). Loads inputs held list (drop (length list) names) (Ok a)) (sym w.now_is) (last list (drop (length list) names) w.wave g none))) s.on
 
 pub loop_crowded : (inputs : LoadInputs) (contents : Option Contents) (names more : List (List ℕ)) (list now : List Package) (refs refs' : List ImportRef) (compared number : ℕ)
-    → IsLoading inputs contents names list refs compared → IsWaveOf inputs contents names list (length refs) more refs' now → number ≡ length more → package_limit < length more → ¬ (length more ≡ length now)
+    → IsBetweenWaves inputs contents names list refs compared → AddsPackages inputs contents names list (length refs) more refs' now → number ≡ length more → package_limit < length more → ¬ (length more ≡ length now)
     → IfKnown contents (λ held. IsLoad inputs held (Err (cause.TooLarge limit.Packages number)))
 loop_crowded inputs contents names more list now refs refs' compared number s w is many apart =
     let sizes = wave_length inputs contents names more list now (length refs) refs' w in
@@ -533,8 +533,8 @@ loop_crowded inputs contents names more list now refs refs' compared number s w 
     above (suc k) e = omega (arith, e)
 
 pub loop_more : (inputs : LoadInputs) (contents : Option Contents) (names more : List (List ℕ)) (list now : List Package) (refs refs' : List ImportRef) (compared : ℕ)
-    → IsLoading inputs contents names list refs compared → IsWaveOf inputs contents names list (length refs) more refs' now → length more ≤ package_limit → ¬ (length more ≡ length now)
-    → IsLoading inputs contents more now refs' (length refs)
+    → IsBetweenWaves inputs contents names list refs compared → AddsPackages inputs contents names list (length refs) more refs' now → length more ≤ package_limit → ¬ (length more ≡ length now)
+    → IsBetweenWaves inputs contents more now refs' (length refs)
 loop_more inputs contents names more list now refs refs' compared s w few apart = record {
   paths = paths;
   some = omega (arith, some, sizes.1, sizes.2);
@@ -575,7 +575,7 @@ loop_more inputs contents names more list now refs refs' compared s w few apart 
         (subst (λ (p : List Package). L p (next_wave list w.wave)) w.now_is (subst (λ (ns : List (List ℕ)). L now ns) rest h))
 
 pub loop_less : (inputs : LoadInputs) (contents : Option Contents) (names more : List (List ℕ)) (list now : List Package) (refs refs' : List ImportRef) (compared : ℕ)
-    → IsLoading inputs contents names list refs compared → IsWaveOf inputs contents names list (length refs) more refs' now → length more ≤ package_limit
+    → IsBetweenWaves inputs contents names list refs compared → AddsPackages inputs contents names list (length refs) more refs' now → length more ≤ package_limit
     → package_limit - length now < package_limit - length list
 loop_less inputs contents names more list now refs refs' compared s w few =
     let sizes = wave_length inputs contents names more list now (length refs) refs' w in

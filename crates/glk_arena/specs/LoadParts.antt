@@ -15,6 +15,7 @@ use Rattle.glk_package.specs.ObjectEntry.{ObjectEntry}
 use Rattle.glk_package.specs.Package.{PackageFile}
 use Rattle.glk_arena.specs.declared.config.Config.{Config}
 use Rattle.glk_arena.specs.declared.loader.Loader.{Loader}
+use Rattle.glk_arena.specs.declared.imports.WaveImports.{WaveImports}
 use Rattle.glk_arena.specs.declared.stored.StoredObjects.{StoredObjects}
 use Rattle.glk_arena.specs.ConfigViews.{file_in}
 use Rattle.glk_arena.specs.Stored.{Stores}
@@ -134,3 +135,7 @@ missing_from listed names imports = option_map (λ i. cause.MissingPackage i.imp
 abbrev pub import_refusal_of : List Package → (List ℕ → Option (List ℕ)) → List (List ℕ) → ℕ → ℕ → ℕ → Option Cause
 import_refusal_of world listed names earlier compared known =
     option_or (unequal_from world names earlier (drop compared (imports_of world))) (missing_from listed names (drop known (imports_of world)))
+
+-- the same of a call
+abbrev pub refusal_by : WaveImports → Option Cause
+refusal_by wave = import_refusal_of wave.list.now (file_in wave.config.now) wave.names.now wave.earlier wave.compared wave.known

@@ -3,6 +3,7 @@ use Rattle.std.specs.Prelude.{◌≡◌, ◌≤◌, ◌<◌, ◌++◌, ℕ, List
 use Rattle.glk_cause.specs.declared.cause.Cause.{Cause}
 use Rattle.glk_io.specs.Contents.{Contents, IfKnown}
 use Rattle.glk_arena.specs.declared.imports.ImportRef.{ImportRef}
+use Rattle.glk_arena.specs.declared.waves.Loading.{Loading}
 use Rattle.glk_arena.specs.World.{Package, paths_of, package_limit}
 use Rattle.glk_arena.specs.Imports.{Import, imports_of, is_among, unsafe_package}
 use Rattle.glk_arena.specs.ImportRefs.{AreImportsOf}
@@ -20,7 +21,7 @@ LoadsOn inputs contents list paths =
 
 -- These packages are loaded, and these paths are listed: those of the packages, and those of the next wave. Imports before the one
 -- at `compared` ask for loaded packages, and all for listed ones.
-pub record IsLoading (inputs : LoadInputs) (contents : Option Contents) (names : List (List ℕ)) (list : List Package) (refs : List ImportRef) (compared : ℕ) : Type 0 where
+pub record IsBetweenWaves (inputs : LoadInputs) (contents : Option Contents) (names : List (List ℕ)) (list : List Package) (refs : List ImportRef) (compared : ℕ) : Type 0 where
   pub paths : paths_of list ≡ take (length list) names
   pub some : length list < length names
   pub few : length names ≤ package_limit
@@ -33,7 +34,7 @@ pub record IsLoading (inputs : LoadInputs) (contents : Option Contents) (names :
   pub on : LoadsOn inputs contents list (drop (length list) names)
 
 -- A wave is loaded after the earlier packages, and the next one is listed.
-pub record IsWaveOf (inputs : LoadInputs) (contents : Option Contents) (names : List (List ℕ)) (list : List Package) (known : ℕ) (more : List (List ℕ)) (refs : List ImportRef) (now : List Package) : Type 0 where
+pub record AddsPackages (inputs : LoadInputs) (contents : Option Contents) (names : List (List ℕ)) (list : List Package) (known : ℕ) (more : List (List ℕ)) (refs : List ImportRef) (now : List Package) : Type 0 where
   pub wave : List Package
   pub now_is : now ≡ list ++ wave
   pub paths : paths_of now ≡ names
@@ -45,3 +46,12 @@ pub record IsWaveOf (inputs : LoadInputs) (contents : Option Contents) (names : 
   pub all_known : All (IsKnown more) (imports_of now)
   pub clean : is_among more unsafe_package ≡ false
   pub files : All (HasFile inputs) more
+
+-- the same of what the loop holds between two waves
+abbrev pub IsLoading : LoadInputs → Option Contents → Loading → Type 0
+IsLoading inputs contents loading = IsBetweenWaves inputs contents loading.names loading.list loading.refs.items loading.compared
+
+-- the same of what one wave makes of it: all imports from before are compared with that wave at the latest
+pub record IsWaveOf (inputs : LoadInputs) (contents : Option Contents) (before now : Loading) : Type 0 where
+  pub adds : AddsPackages inputs contents before.names before.list (length before.refs.items) now.names now.refs.items now.list
+  pub compared_is : now.compared ≡ length before.refs.items

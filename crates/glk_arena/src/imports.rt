@@ -23,6 +23,19 @@ pub(crate) struct ImportRef {
     entry: u32,
 }
 
+// The imports of loaded packages as a wave is checked, whose packages are those after the first
+// `earlier`: imports before `compared` were compared before, and those from `known` on are its own.
+#[derive(Clone, Copy)]
+pub(crate) struct WaveImports<'a> {
+    pub list: &'a Loaded,
+    pub names: &'a PackagePaths,
+    pub config: &'a Config,
+    pub refs: &'a [ImportRef],
+    pub compared: usize,
+    pub known: usize,
+    pub earlier: usize,
+}
+
 // An import: who imports, what, and the fingerprint that it had when the importer was compiled.
 #[derive(Clone, Copy)]
 pub(crate) struct ImportEntry<'a> {

@@ -8,12 +8,13 @@ ghost use Rattle.glk_base.specs.Limits.{file_limit};
 ghost use Rattle.glk_arena.specs.Imports.{imports_of};
 ghost use Rattle.glk_arena.specs.ImportRefs.{AreImportsOf};
 ghost use Rattle.glk_arena.specs.Waves.{first_wave};
-ghost use Rattle.glk_arena.specs.LoadParts.{inputs_of, inputs_by, HasFile, LoadsFiles, RefusesFiles, RefusesLoad, LoadAnswer, import_refusal_of};
+ghost use Rattle.glk_arena.specs.LoadParts.{inputs_of, inputs_by, HasFile, LoadsFiles, RefusesFiles, RefusesLoad, LoadAnswer, refusal_by};
 ghost use Rattle.glk_arena.specs.WaveLoop.{IsLoading, IsWaveOf};
 
 use crate::config::Config;
 use crate::imports::{
-    ImportRef, add_imports, fingerprint_of, first_missing, first_unequal, queue_imports,
+    ImportRef, WaveImports, add_imports, fingerprint_of, first_missing, first_unequal,
+    queue_imports,
 };
 use crate::loaded::Loaded;
 use crate::loader::Loader;
@@ -71,25 +72,24 @@ fn load_files<F: Files>(
     Ok(now)
 }
 
-// The refusal of a wave for an import: the first that differs, of those from `compared` on,
-// or the first that is missing, of those from `known` on.
-fn import_refusal(
-    alloc: Global,
-    list: &Loaded,
-    names: &PackagePaths,
-    config: &Config,
-    refs: &[ImportRef],
-    compared: usize,
-    known: usize,
-    earlier: usize,
-) -> Result<Option<Cause>, OutOfMemory>
-    requires paths { paths_of list.now ≡ names.now }
-    requires refs { AreImportsOf list.now list.now refs.now }
-    requires compared { compared ≤ known }
-    requires known { known ≤ length refs.now }
-    ensures { IfOk result (λ refusal.
-        refusal ≡ import_refusal_of list.now (file_in config.now) names.now earlier compared known) }
+// The refusal of a wave for an import: the first that differs, of those that are compared with it,
+// or the first that is missing, of its own.
+fn import_refusal(alloc: Global, wave: WaveImports<'_>) -> Result<Option<Cause>, OutOfMemory>
+    requires paths { paths_of wave.list.now ≡ wave.names.now }
+    requires refs { AreImportsOf wave.list.now wave.list.now wave.refs.now }
+    requires compared { wave.compared ≤ wave.known }
+    requires known { wave.known ≤ length wave.refs.now }
+    ensures { IfOk result (λ refusal. refusal ≡ refusal_by wave.entry) }
 {
+    let WaveImports {
+        list,
+        names,
+        config,
+        refs,
+        compared,
+        known,
+        earlier,
+    } = wave;
     if let Some(import) = first_unequal(list, names, refs, compared, earlier) {
         return Ok(Some(Cause::Fingerprint {
             importer: Text::new(alloc, import.importer)?,
@@ -119,44 +119,60 @@ fn checked(list: Loaded) -> Loaded
     list
 }
 
-// Loads one wave after the packages of a list, and lists the next. Of the imports those
-// before `compared` were compared before the last wave.
+// How far loading has come between two waves: the loaded packages, the listed paths, and the imports of
+// the packages, of which those before `compared` were compared before the last wave.
+#[derive(Drop)]
+struct Loading {
+    names: PackagePaths,
+    list: Loaded,
+    refs: Vec<ImportRef>,
+    compared: usize,
+}
+
+// Loads one wave after the packages that are loaded, and lists the next.
 fn one_wave<F: Files>(
     alloc: Global,
     loader: Loader<'_>,
-    names: &mut PackagePaths,
-    list: Loaded,
-    refs: &mut Vec<ImportRef>,
-    compared: usize,
+    loading: Loading,
     files: &mut F,
-) -> Result<Loaded, Fault<Cause>>
-    requires { let known = (F.state files.old).contents in
-        IsLoading (inputs_by loader) known names.old list refs.old.items compared }
-    ensures ok { let known = (F.state files.old).contents in let before = length refs.old.items in
-        IfOk result (IsWaveOf (inputs_by loader.entry) known names.old list before names.new refs.new.items) }
+) -> Result<Loading, Fault<Cause>>
+    requires { IsLoading (inputs_by loader) (F.state files.old).contents loading }
+    ensures ok { IfOk result
+        (IsWaveOf (inputs_by loader.entry) (F.state files.old).contents loading) }
     ensures same { OnOk result (FilesUnchanged (F.state files.old) (F.state files.new)) }
     ensures err { IfErr result
         (RefusesLoad (F.state files.old) (F.state files.new) (inputs_by loader.entry)) }
 {
+    let Loading {
+        mut names,
+        list,
+        mut refs,
+        compared,
+    } = loading;
     let earlier = list.packages() as usize;
     let known = refs.len();
-    let now = load_files(alloc, loader, names, list, files)?;
-    add_imports(&now, refs, earlier)?;
-    match import_refusal(
-        alloc,
-        &now,
-        names,
-        loader.config,
-        refs,
+    let now = load_files(alloc, loader, &names, list, files)?;
+    add_imports(&now, &mut refs, earlier)?;
+    let wave = WaveImports {
+        list: &now,
+        names: &names,
+        config: loader.config,
+        refs: &refs,
         compared,
         known,
         earlier,
-    )? {
+    };
+    match import_refusal(alloc, wave)? {
         Some(refusal) => return Err(Fault::Bad(refusal)),
         None => {}
     }
-    queue_imports(alloc, &now, names, refs, known)?;
-    Ok(now)
+    queue_imports(alloc, &now, &mut names, &refs, known)?;
+    Ok(Loading {
+        names,
+        list: now,
+        refs,
+        compared: known,
+    })
 }
 
 /// Loads the main file under the path `main`, the package `runtime` where it is listed, and what
@@ -180,22 +196,28 @@ pub fn load_waves<F: Files>(
     ensures small { IfOk result (λ loaded. file_bytes loaded ≤ file_limit) }
 {
     let loader = Loader { main, config };
-    let mut names = first_names(alloc, config)?;
-    let mut list = Loaded::new(alloc);
-    let mut refs = Vec::new(alloc);
-    let mut compared = 0;
+    let mut loading = Loading {
+        names: first_names(alloc, config)?,
+        list: Loaded::new(alloc),
+        refs: Vec::new(alloc),
+        compared: 0,
+    };
     'waves: loop {
-        let known = refs.len();
-        list = one_wave(alloc, loader, &mut names, list, &mut refs, compared, files)?;
-        if names.len() == list.packages() as usize {
+        loading = one_wave(alloc, loader, loading, files)?;
+        if loading.names.len() == loading.list.packages() as usize {
+            let Loading {
+                names: _,
+                list,
+                refs: _,
+                compared: _,
+            } = loading;
             return Ok(checked(list));
         }
-        if names.len() > PACKAGE_LIMIT {
+        if loading.names.len() > PACKAGE_LIMIT {
             return Err(Fault::Bad(Cause::TooLarge {
                 limit: Limit::Packages,
-                number: names.len() as u64,
+                number: loading.names.len() as u64,
             }));
         }
-        compared = known;
     }
 }
