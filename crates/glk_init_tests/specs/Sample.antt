@@ -2,8 +2,8 @@
 use Rattle.std.specs.Prelude.{ℕ, ◌==◌, Bool, true, List, [], ◌∷◌, codes, Option, Some, None, if◌then◌else◌}
 use Rattle.glk_init.specs.declared.program.InitEdge.{InitEdge}
 use Rattle.glk_init.specs.Graph.{InitGraph}
-use Rattle.glk_init_tests.specs.declared.tests.Sample.{Sample}
-use Rattle.glk_init_tests.specs.declared.tests.Sample.TheVariants as sample
+use Rattle.glk_init_tests.specs.declared.sample.Sample.{Sample}
+use Rattle.glk_init_tests.specs.declared.sample.Sample.TheVariants as sample
 
 abbrev pub edge : ℕ → Option ℕ → InitEdge
 edge relocation target = record { relocation = relocation; target = target }
