@@ -3,7 +3,8 @@ use Rattle.std.specs.Prelude.{◌<◌, ℕ, Bool, List, Option, Some, None}
 use Rattle.glk_init.specs.declared.program.InitEdge.{InitEdge}
 
 -- how many symbols there are, and of each: whether it has a definition, its name, the load position and the
--- size of its definition, and what it waits for, by its INITORDER relocations in their order
+-- size of its definition, and what it waits for, by its INITORDER
+-- relocations that have a target, weak and strong, in their order
 pub record InitGraph : Type 0 where
   pub keys : ℕ
   pub defined : ℕ → Bool

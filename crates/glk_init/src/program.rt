@@ -10,7 +10,7 @@ use glk_base::OutOfMemory;
 pub struct InitEdge {
     /// The relocation's number among those of the symbol.
     pub relocation: u32,
-    /// The key that it means; none where no symbol is meant.
+    /// The key that it means; none where it means a symbol that no loaded object has.
     pub target: Option<u32>,
 }
 
@@ -43,8 +43,8 @@ pub trait InitProgram {
         requires { key < (graph self.now).keys }
         ensures { result ≡ (graph self.now).size key };
 
-    /// Replaces what is in a buffer by the INITORDER relocations of a key that have a target, in their
-    /// order.
+    /// Replaces what is in a buffer by the INITORDER relocations of a key that have a target, weak and
+    /// strong, in their order. A relocation that means nothing is none of them.
     ///
     /// # Errors
     /// Out of memory: the buffer holds anything.

@@ -13,7 +13,7 @@ pub enum Unreadable {
     Breaks {
         /// The key of the symbol in which the offset counts.
         holder: u32,
-        /// The rule's number, 1 to 7 for Y1 to Y7.
+        /// The rule's number, 1 to 8 for Y1 to Y8.
         rule: u8,
         /// The offset that the rule reports.
         offset: u32,

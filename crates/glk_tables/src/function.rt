@@ -20,7 +20,7 @@ pub struct FuncTables<'a> {
     /// How many funcinfo auxes there are, empty places not counted, and the first of them.
     pub infos: u32,
     pub info: AuxTarget<'a>,
-    /// The first aux of each of these types.
+    /// The first aux of each of these types that is no empty place.
     pub pcsp: AuxTarget<'a>,
     pub pcfile: AuxTarget<'a>,
     pub pcline: AuxTarget<'a>,
