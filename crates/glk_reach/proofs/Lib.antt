@@ -1,1 +1,4 @@
 pub mod FirstFaults
+pub mod Targets
+pub mod Contents
+pub mod IndexLaws

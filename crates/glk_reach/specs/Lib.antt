@@ -10,4 +10,5 @@ pub mod Faults
 pub mod Reached
 pub mod RelocationLists
 pub mod Views
+pub mod Indices
 pub mod Laws
