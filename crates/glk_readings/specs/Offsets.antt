@@ -1,5 +1,5 @@
 -- The relocations of a symbol in the order of their offsets.
-use Rattle.std.specs.Prelude.{◌≡◌, ℕ, ◌+◌, ◌<◌, ◌≤◌, List, [], ◌∷◌, length, Option, Some, None, is_some, slice_get, if◌then◌else◌}
+use Rattle.std.specs.Prelude.{◌≡◌, ℕ, ◌+◌, ◌<◌, ◌≤◌, not, Bool, List, [], ◌∷◌, length, Option, Some, None, is_some, slice_get, if◌then◌else◌}
 use Rattle.std.specs.List.Sorted.{IsNonDecreasingBy}
 use Rattle.std.specs.declared.vec.Vec.{Vec}
 use Rattle.glk_types.specs.Targets.{target_of}
@@ -43,3 +43,7 @@ IsSortedUnless relocs (Some pairs) = AreSorted relocs pairs.items
 -- an index of these relocations: nothing where offsets rise
 abbrev pub IsIndexOf : List Relocation → OffsetIndex → Type 0
 IsIndexOf relocs index = IsSortedUnless relocs index.sorted
+
+-- it has no pairs, as that of relocations whose offsets rise
+abbrev pub keeps_nothing : OffsetIndex → Bool
+keeps_nothing index = not (is_some index.sorted)

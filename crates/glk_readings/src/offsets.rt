@@ -1,7 +1,7 @@
 // The relocations of a symbol by their offsets.
 ghost use Rattle.std.specs.Prelude.{◌≡◌, ◌<◌, ◌≤◌, ◌^◌, ℕ, List, length, Some, IfOk, IfErr, IsTrue, slice_get};
 ghost use Rattle.glk_readings.specs.declared.symbols.Relocation.{Relocation};
-ghost use Rattle.glk_readings.specs.Offsets.{least_next as least_next_of, targets_of, IsRising, IsBoundary, IsIndexOf};
+ghost use Rattle.glk_readings.specs.Offsets.{least_next as least_next_of, targets_of, IsRising, IsBoundary, IsIndexOf, keeps_nothing as keeps_nothing_in};
 ghost use Rattle.glk_readings.specs.References.{reference_at};
 
 use crate::symbols::Relocation;
@@ -123,6 +123,20 @@ impl OffsetIndex {
         Ok(OffsetIndex {
             sorted: Some(pairs),
         })
+    }
+
+    /// The index of relocations whose offsets rise, whatever they are. It keeps nothing.
+    pub fn rising() -> OffsetIndex
+        ensures { IsTrue (keeps_nothing_in result) }
+    {
+        OffsetIndex { sorted: None }
+    }
+
+    /// Whether it keeps nothing, since the offsets rise.
+    pub fn keeps_nothing(&self) -> bool
+        ensures { result ≡ keeps_nothing_in self.now }
+    {
+        self.sorted.is_none()
     }
 
     /// The first of the symbol's relocations that has this offset and a target, by halves.
