@@ -109,10 +109,10 @@ fn found<R: Threads + Sync>(
 #[test]
 fn names_are_found_with_their_definitions(rt: HostRuntime) -> Result<(), Fail> {
     let loaded = loaded(rt.alloc(), MAIN, OTHER)?;
-    for workers in [1, 2, 64] {
-        // The reference of main is the least row of the key that p defines.
-        assert!(rt; found(&rt, rt.alloc(), &loaded, workers, b"p.f", 1)? == (1, 2));
-    }
+    // The reference of main is the least row of the key that p defines.
+    assert!(rt; found(&rt, rt.alloc(), &loaded, 1, b"p.f", 1)? == (1, 2));
+    assert!(rt; found(&rt, rt.alloc(), &loaded, 2, b"p.f", 1)? == (1, 2));
+    assert!(rt; found(&rt, rt.alloc(), &loaded, 64, b"p.f", 1)? == (1, 2));
     for (name, abi, key, chosen) in [
         ("main.main", 0, 0, 0),
         // Asked for, and defined nowhere.
