@@ -1,5 +1,5 @@
 -- Going over rules in their order.
-use Rattle.std.proofs.Common.{◌≡◌, ◌+◌, ◌-◌, ◌<◌, ◌≤◌, inl, inr, ℕ, arith, subst}
+use Rattle.std.proofs.Common.{◌≡◌, ◌+◌, ◌-◌, ◌<◌, ◌≤◌, inl, inr, ℕ, arith, subst, sym}
 use Rattle.std.proofs.lemmas.Bool.{cases_lt}
 use Rattle.glk_base.specs.Least.{IsLeast}
 use Rattle.glk_base.specs.Rules.{IsIntact, FirstBroken}
@@ -43,3 +43,19 @@ fewer Breaks n m below intact = record { no = λ rule offset small broken. intac
 -- the next rule is broken first
 pub first : (Breaks : ℕ → ℕ → Type 0) (rule offset : ℕ) → 0 < rule → IsIntact Breaks (rule - 1) → IsLeast (Breaks rule) offset → FirstBroken Breaks rule offset
 first Breaks rule offset positive intact here = record { before = λ k place small broken. intact.no k place (omega arith) broken; here = here }
+
+-- one rule is broken first, at one offset
+pub record IsSameRule (rule other offset at : ℕ) : Type 0 where
+  pub rules : rule ≡ other
+  pub offsets : offset ≡ at
+
+pub one_first : (Breaks : ℕ → ℕ → Type 0) (rule other offset at : ℕ) → FirstBroken Breaks rule offset → FirstBroken Breaks other at → IsSameRule rule other offset at
+one_first Breaks rule other offset at first second = record { rules = rules; offsets = omega (arith, first.here.least at same.here.holds, same.here.least offset first.here.holds) } where
+  rules : rule ≡ other
+  rules = elim (cases_lt rule other) [
+    | inl less ↦ absurd (second.before rule offset less first.here.holds)
+    | inr more ↦ elim (cases_lt other rule) [ inl less ↦ absurd (first.before other at less second.here.holds) | inr same ↦ omega arith ]
+  ]
+
+  same : FirstBroken Breaks rule at
+  same = subst (λ (r : ℕ). FirstBroken Breaks r at) (sym rules) second

@@ -22,7 +22,7 @@ pub use fault::{Fault, OutOfMemory, TooBig};
 pub use fields::{Field, push_fields};
 pub use flags::{FlagWord, split_flag};
 pub use ids::{KeyId, ObjId, SymId};
-pub use limits::FILE_LIMIT;
+pub use limits::{FILE_LIMIT, FUNCTION_LIMIT};
 pub use lines::ConfigLine;
 pub use multiples::least_multiple;
 pub use numbers::{le16, le32, le64};

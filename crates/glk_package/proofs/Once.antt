@@ -1,10 +1,9 @@
 -- There is one answer for a package file.
 use Rattle.std.proofs.Common.{◌≡◌, ℕ, ◌+◌, ◌<◌, List, [], ◌∷◌, ◌++◌, length, Bool, true, false, MatchBool, Option, Some, None, Result, Ok, Err, ap, subst, sym, refl, ◌∙◌, inl, inr, add-zero, zero-add, arith}
-use Rattle.std.proofs.lemmas.Bool.{cases_order}
 use Rattle.std.specs.List.{starts_with}
 use Rattle.std.specs.Prelude.{nat_eq}
 use Rattle.glk_base.specs.declared.rules.RuleFamily.TheVariants as family
-use Rattle.glk_base.specs.Rules.{FirstBroken}
+use Rattle.glk_base.proofs.RuleLaws.{one_first}
 use Rattle.glk_ar.specs.Archive.{Entry, IsMemberAt, IsRun, after, first_offset}
 use Rattle.glk_ar.specs.Part.{Part, HoldsPart}
 use Rattle.glk_ar.proofs.Once.{one_refusal, one_part}
@@ -21,27 +20,6 @@ use Rattle.glk_package.specs.Members.{IsObjectIn, IsObjectFault, HasMismatch, Is
 use Rattle.glk_package.specs.Package.{bare_start, AreMembers, IsFaultAt, IsFirstFault, ArchiveFile, BareFile, PackageFile}
 use Rattle.glk_package.specs.ObjectEntry.{ObjectEntry}
 use Rattle.glk_package.proofs.RuleAfter.{after_none, after_both}
-
--- one rule is broken first, at one offset
-record IsSameRule (rule other offset at : ℕ) : Type 0 where
-  rules : rule ≡ other
-  offsets : offset ≡ at
-
-one_rule : (Breaks : ℕ → ℕ → Type 0) (rule other offset at : ℕ) → FirstBroken Breaks rule offset → FirstBroken Breaks other at → rule ≡ other
-one_rule Breaks rule other offset at first second = elim (cases_order rule other) [
-  | inl equal ↦ equal
-  | inr (inl less) ↦ absurd (second.before rule offset less first.here.holds)
-  | inr (inr more) ↦ absurd (first.before other at more second.here.holds)
-]
-
-one_offset : (Breaks : ℕ → ℕ → Type 0) (rule offset at : ℕ) → FirstBroken Breaks rule offset → FirstBroken Breaks rule at → offset ≡ at
-one_offset Breaks rule offset at first second = omega (arith, first.here.least at second.here.holds, second.here.least offset first.here.holds)
-
-one_first : (Breaks : ℕ → ℕ → Type 0) (rule other offset at : ℕ) → FirstBroken Breaks rule offset → FirstBroken Breaks other at → IsSameRule rule other offset at
-one_first Breaks rule other offset at first second =
-    let rules : rule ≡ other = one_rule Breaks rule other offset at first second in
-    let P : ℕ → Type 0 = λ r. FirstBroken Breaks r at in
-    record { rules = rules; offsets = one_offset Breaks rule offset at first (subst P (sym rules) second) }
 
 -- a line that is allowed is no other one
 allowed_line : (rules : ObjectRules) (body first here : List ℕ) (part : Part) → HoldsPart body part → Allows rules.headers part.line → HasMismatch rules body first here → ⊥

@@ -4,7 +4,7 @@ use Rattle.std.specs.Prelude.{Result}
 use Rattle.std.proofs.lemmas.Bool.{cases_lt}
 use Rattle.glk_base.specs.declared.fault.Fault.{Fault}
 use Rattle.glk_base.specs.declared.fault.Fault.TheVariants as fault
-use Rattle.glk_base.specs.Rules.{FirstBroken}
+use Rattle.glk_base.proofs.RuleLaws.{one_first}
 use Rattle.glk_io.specs.Contents.{IfKnown}
 use Rattle.glk_io.specs.Changes.{FileState, SinkState}
 use Rattle.glk_cause.specs.declared.cause.Cause.{Cause}
@@ -24,26 +24,10 @@ use Rattle.glk_tools.specs.Stdout.{stdout}
 use Rattle.glk_tools.specs.Nm.{image_limit, IsNoImage, IsSymbolsOf, GivesSymbols, IsOneListing, NmAllows, ListsSymbols, NmAnswer, NmUnlessIoFails}
 use Rattle.glk_tools.proofs.MustAnswers.{printing_must}
 
--- one rule is broken first, at one offset
-one_rule : (b : List ℕ) (rule offset other place : ℕ) → FirstBroken (Breaks b) rule offset → FirstBroken (Breaks b) other place → rule ≡ other
-one_rule b rule offset other place h k =
-    elim (cases_lt rule other) [
-      | inl less ↦ absurd (k.before rule offset less h.here.holds)
-      | inr more ↦ elim (cases_lt other rule) [ inl less ↦ absurd (h.before other place less k.here.holds) | inr same ↦ omega arith ]
-    ]
-
-one_offset : (b : List ℕ) (rule offset other place : ℕ) → rule ≡ other → FirstBroken (Breaks b) rule offset → FirstBroken (Breaks b) other place → offset ≡ place
-one_offset b rule offset other place e h k =
-    let l : FirstBroken (Breaks b) rule place = subst (λ (r : ℕ). FirstBroken (Breaks b) r place) (sym e) k in
-    let below = h.here.least place l.here.holds in
-    let above = l.here.least offset h.here.holds in
-    omega arith
-
 one_refusal : (path file : List ℕ) (a b : Cause) → IsNoImage path file a → IsNoImage path file b → a ≡ b
 one_refusal path file a b h k =
-    let rules : h.rule ≡ k.rule = one_rule file h.rule h.offset k.rule k.offset h.broken k.broken in
-    let offsets : h.offset ≡ k.offset = one_offset file h.rule h.offset k.rule k.offset rules h.broken k.broken in
-    h.refusal_is ∙ ap (λ r. cause.ElfBad path r h.offset) rules ∙ ap (λ o. cause.ElfBad path k.rule o) offsets ∙ sym k.refusal_is
+    let same = one_first (Breaks file) h.rule k.rule h.offset k.offset h.broken k.broken in
+    h.refusal_is ∙ ap (λ r. cause.ElfBad path r h.offset) same.rules ∙ ap (λ o. cause.ElfBad path k.rule o) same.offsets ∙ sym k.refusal_is
 
 -- an image is not refused
 no_image : (path file : List ℕ) (refusal : Cause) → IsElf file → IsNoImage path file refusal → ⊥
