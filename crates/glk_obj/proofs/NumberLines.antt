@@ -1,13 +1,13 @@
 -- What a table of numbers has after some lines of a file, and what the next line does to it.
 use Rattle.std.proofs.Common.{◌≡◌, ◌≢◌, ◌+◌, ◌-◌, ◌<◌, ◌^◌, ◌∙◌, ◌⊎◌, ◌↔◌, inl, inr, ℕ, true, false, List, length, min, refl, ap, sym, subst, arith, eqb, eq-eqb, Option, Some, None}
 use Rattle.std.proofs.lemmas.Bool.{false≢true, eqb-true}
-use Rattle.std.proofs.lemmas.List.{get_or-set_same, get_or-set_other}
+use Rattle.std.proofs.lemmas.List.{get_or-set_same, get_or-set_other, length-set}
 use denote.Ref.{Bor}
 use Rattle.glk_base.specs.Lines.{lines, trimmed_line, is_skipped, line_at, IsCut, HasRead, IsFirstBad, AllGood}
 use Rattle.glk_base.proofs.Cuts.{start_read, next_line, read_good, read_bad, read_whole, read_all}
 use Rattle.glk_obj.specs.declared.kinds.RelocKind.{RelocKind}
 use Rattle.glk_obj.specs.declared.numbers.Numbers.{Numbers}
-use Rattle.glk_obj.specs.Numbers.{index_of, number_in, kind_of, Gives, IsGiven, IsGood}
+use Rattle.glk_obj.specs.Numbers.{kinds, index_of, number_in, kind_of, Gives, IsGiven, IsGood, HasNoOthers}
 use Rattle.glk_obj.specs.NumberSteps.{Takes, Adds, GivesNothing, GivesOldKind, GivesOldNumber}
 use Rattle.glk_obj.proofs.KindNumbers.{index_injective, one_kind, one_number, kind_has, no_kind}
 
@@ -16,6 +16,7 @@ pub record HasJust (table : Numbers) (ls : List (List ℕ)) (n : ℕ) : Type 0 w
   pub given : (kind : RelocKind) → 0 < number_in table kind → IsGiven ls n kind (number_in table kind)
   pub has : (kind : RelocKind) (number : ℕ) → IsGiven ls n kind number → number_in table kind ≡ number
   pub apart : (a b : RelocKind) → 0 < number_in table a → number_in table a ≡ number_in table b → a ≡ b
+  pub size : length table.numbers ≡ length kinds
 
 pub given_more : (ls : List (List ℕ)) (n : ℕ) (kind : RelocKind) (number : ℕ) → IsGiven ls n kind number → IsGiven ls (n + 1) kind number
 given_more ls n kind number g = record { line = g.line; before = let h = g.before in omega arith; gives = g.gives }
@@ -37,11 +38,12 @@ given_cases ls n kind number g = elim (eqb g.line n) as (λ b. eqb g.line n ≡ 
 ] refl
 
 -- no line is read, and the table is empty
-pub just_none : (table : Numbers) (ls : List (List ℕ)) → ((kind : RelocKind) → number_in table kind ≡ 0) → HasJust table ls 0
-just_none table ls empty = record {
+pub just_none : (table : Numbers) (ls : List (List ℕ)) → ((kind : RelocKind) → number_in table kind ≡ 0) → length table.numbers ≡ length kinds → HasJust table ls 0
+just_none table ls empty size = record {
   given = λ kind some. let e = empty kind in absurd (omega arith);
   has = λ kind number g. let h = g.before in absurd (omega arith);
   apart = λ a b some same. let e = empty a in absurd (omega arith);
+  size = size;
 }
 
 -- a line is skipped
@@ -53,6 +55,7 @@ just_skipped table ls n t passed = record {
     | inr here ↦ absurd (false≢true (sym here.read ∙ passed))
   ];
   apart = t.apart;
+  size = t.size;
 }
 
 -- a kind is the added one, or has the number that it had
@@ -113,6 +116,7 @@ just_added table ls n next t h = record {
                   t.apart a b positive (sym had ∙ same ∙ kept)
             ]
       ];
+  size = rw h.next_is (length-set table.numbers (index_of h.kind) h.number ∙ t.size);
 }
 
 -- the lines that are taken are good, and those that are refused are not
@@ -163,8 +167,8 @@ pub record Parsed (ls : List (List ℕ)) (table : Numbers) (rest : Option (Bor (
   pub lines_read : HasRead ls (IsGood ls) read rest number
   pub just : HasJust table ls read
 
-pub parse_start : (text : Bor (List ℕ)) (table : Numbers) → ((kind : RelocKind) → number_in table kind ≡ 0) → Parsed (lines text.now) table (Some text) 1
-parse_start text table empty = record { read = 0; lines_read = start_read text (IsGood (lines text.now)); just = just_none table (lines text.now) empty }
+pub parse_start : (text : Bor (List ℕ)) (table : Numbers) → ((kind : RelocKind) → number_in table kind ≡ 0) → length table.numbers ≡ length kinds → Parsed (lines text.now) table (Some text) 1
+parse_start text table empty size = record { read = 0; lines_read = start_read text (IsGood (lines text.now)); just = just_none table (lines text.now) empty size }
 
 -- the next line without its blanks
 here : (ls : List (List ℕ)) (n : ℕ) (text : Bor (List ℕ)) (line field : List ℕ) (rest : Option (Bor (List ℕ))) (number : ℕ)
@@ -228,3 +232,8 @@ parse_kinds ls table last p kind number =
           subst (λ (m : ℕ). IsGiven ls (length ls) kind m) has.1 (t.given kind some),
       λ g. kind_given table ls kind number t g,
     )
+
+pub parse_others : (ls : List (List ℕ)) (table : Numbers) (last : ℕ) → Parsed ls table None last → HasNoOthers ls table
+parse_others ls table last p =
+    let whole : p.read ≡ length ls = read_whole ls (IsGood ls) p.read last p.lines_read in
+    record { size = p.just.size; given = λ kind some. subst (λ (n : ℕ). IsGiven ls n kind (number_in table kind)) whole (p.just.given kind some) }
