@@ -1,13 +1,14 @@
 -- What a table of numbers has after some lines of a file, and what the next line does to it.
-use Rattle.std.proofs.Common.{◌≡◌, ◌≢◌, ◌+◌, ◌-◌, ◌<◌, ◌^◌, ◌∙◌, ◌⊎◌, ◌↔◌, inl, inr, ℕ, true, false, List, length, min, refl, ap, sym, subst, arith, eqb, eq-eqb, Option, Some, None}
+use Rattle.std.proofs.Common.{get_or, zero, suc, [], ◌∷◌, ◌≡◌, ◌≢◌, ◌+◌, ◌-◌, ◌<◌, ◌^◌, ◌∙◌, ◌⊎◌, ◌↔◌, inl, inr, ℕ, true, false, List, length, min, refl, ap, sym, subst, arith, eqb, eq-eqb, Option, Some, None}
 use Rattle.std.proofs.lemmas.Bool.{false≢true, eqb-true}
-use Rattle.std.proofs.lemmas.List.{get_or-set_same, get_or-set_other, length-set}
+use Rattle.std.proofs.lemmas.List.{get_or-set_same, get_or-set_other, length-set, ext_get_or}
+use Rattle.std.proofs.lemmas.Bool.{cases_lt}
 use denote.Ref.{Bor}
 use Rattle.glk_base.specs.Lines.{lines, trimmed_line, is_skipped, line_at, IsCut, HasRead, IsFirstBad, AllGood}
 use Rattle.glk_base.proofs.Cuts.{start_read, next_line, read_good, read_bad, read_whole, read_all}
 use Rattle.glk_obj.specs.declared.kinds.RelocKind.{RelocKind}
 use Rattle.glk_obj.specs.declared.numbers.Numbers.{Numbers}
-use Rattle.glk_obj.specs.Numbers.{kinds, index_of, number_in, kind_of, Gives, IsGiven, IsGood, HasNoOthers}
+use Rattle.glk_obj.specs.Numbers.{kinds, index_of, number_in, kind_of, Gives, IsGiven, IsGood, IsListed, HasNoOthers}
 use Rattle.glk_obj.specs.NumberSteps.{Takes, Adds, GivesNothing, GivesOldKind, GivesOldNumber}
 use Rattle.glk_obj.proofs.KindNumbers.{index_injective, one_kind, one_number, kind_has, no_kind}
 
@@ -237,3 +238,41 @@ pub parse_others : (ls : List (List ℕ)) (table : Numbers) (last : ℕ) → Par
 parse_others ls table last p =
     let whole : p.read ≡ length ls = read_whole ls (IsGood ls) p.read last p.lines_read in
     record { size = p.just.size; given = λ kind some. subst (λ (n : ℕ). IsGiven ls n kind (number_in table kind)) whole (p.just.given kind some) }
+
+-- the indices of some kinds rise by one, from n on
+abbrev AreFrom : ℕ → List RelocKind → Type 0
+AreFrom n [] = Unit {0}
+AreFrom n (k ∷ ks) = (index_of k ≡ n) × AreFrom (suc n) ks
+
+kinds_rise : AreFrom 0 kinds
+kinds_rise = (refl, (refl, (refl, (refl, (refl, (refl, (refl, (refl, (refl, (refl, (refl, (refl, (refl, (refl, tt))))))))))))))
+
+-- the kind of an index
+kind_at : (n : ℕ) (ks : List RelocKind) → AreFrom n ks → (i : ℕ) → i < length ks → (kind : RelocKind) × (index_of kind ≡ n + i)
+kind_at n [] rise i l = absurd (omega (arith, l))
+kind_at n (k ∷ ks) rise zero l = (k, omega (arith, rise.0))
+kind_at n (k ∷ ks) rise (suc i) l = let later = kind_at (suc n) ks rise.1 i (omega (arith, l)) in (later.0, omega (arith, later.1))
+
+-- the lines of a file give one table
+pub one_listed : (ls : List (List ℕ)) (a b : Numbers) → IsListed ls a → HasNoOthers ls a → IsListed ls b → HasNoOthers ls b → a ≡ b
+one_listed ls a b lists_a only_a lists_b only_b =
+    ap (λ (n : List ℕ). record { numbers = n }) (ext_get_or 0 a.numbers b.numbers (only_a.size ∙ sym only_b.size) each)
+  where
+    -- what one table has the other has
+    has : (x y : Numbers) (kind : RelocKind) → HasNoOthers ls x → IsListed ls y → 0 < number_in x kind → number_in y kind ≡ number_in x kind
+    has x y kind only lists some = (kind_has y kind (number_in x kind) ((lists kind (number_in x kind)).1 (only.given kind some))).1
+
+    same : (kind : RelocKind) → number_in a kind ≡ number_in b kind
+    same kind = elim (cases_lt 0 (number_in a kind)) [
+      | inl some ↦ sym (has a b kind only_a lists_b some)
+      | inr none ↦ elim (cases_lt 0 (number_in b kind)) [
+        | inl some ↦ has b a kind only_b lists_a some
+        | inr nothing ↦ omega (arith, none, nothing)
+      ]
+    ]
+
+    each : (i : ℕ) → i < length a.numbers → get_or a.numbers i 0 ≡ get_or b.numbers i 0
+    each i l =
+        let k = kind_at 0 kinds kinds_rise i (subst (λ n. i < n) only_a.size l) in
+        let at : index_of k.0 ≡ i = omega (arith, k.1) in
+        subst (λ (j : ℕ). get_or a.numbers j 0 ≡ get_or b.numbers j 0) at (same k.0)
