@@ -14,7 +14,7 @@ use Rattle.glk_init.specs.Tasks.{Awaits, awaited, IsReachedBy, IsTask}
 use Rattle.glk_init.specs.Reached.{awaited_graph}
 
 -- the effect keeps this target
-abbrev IsKeeping : ℕ → Effect → Type 0
+abbrev pub IsKeeping : ℕ → Effect → Type 0
 IsKeeping t (Keeps u) = u ≡ t
 IsKeeping t (Links u) = ⊥
 IsKeeping t (Funcdata u) = ⊥
@@ -24,7 +24,7 @@ IsKeeping t (Names n) = ⊥
 IsKeeping t (Method n x) = ⊥
 
 -- an effect by what is awaited keeps a target that is
-kept_target : (xs : List ℕ) (e : Effect) → Contains (map Keeps xs) e → (t : ℕ) × Contains xs t × IsKeeping t e
+pub kept_target : (xs : List ℕ) (e : Effect) → Contains (map Keeps xs) e → (t : ℕ) × Contains xs t × IsKeeping t e
 kept_target xs e c =
     let at = at_from_Contains (map Keeps xs) e c in
     let inside : at.0 < length xs = subst (λ (n : ℕ). at.0 < n) (length-map xs Keeps) at.1 in
@@ -32,7 +32,7 @@ kept_target xs e c =
     let is : Keeps t ≡ e = sym (get_or-map Keeps xs at.0 0 (Keeps 0) inside) ∙ at.2 (Keeps 0) in
     (t, Contains-get_or xs at.0 0 inside, subst (IsKeeping t) is refl)
 
-keeps_awaited : (xs : List ℕ) (t : ℕ) → Contains xs t → Contains (map Keeps xs) (Keeps t)
+pub keeps_awaited : (xs : List ℕ) (t : ℕ) → Contains xs t → Contains (map Keeps xs) (Keeps t)
 keeps_awaited xs t c =
     let at = at_from_Contains xs t c in
     let inside : at.0 < length (map Keeps xs) = subst (λ (n : ℕ). at.0 < n) (sym (length-map xs Keeps)) at.1 in
@@ -103,7 +103,7 @@ option_within : (n : ℕ) (o : Option ℕ) (rest : List ℕ) → IsKeyWithin n o
 option_within n None rest h r = r
 option_within n (Some t) rest h r = All-cons (λ u. u < n) t rest h r
 
-targets_within : (n : ℕ) (edges : List InitEdge) → All (IsWithin n) edges → All (λ t. t < n) (filter_map (λ e. e.target) edges)
+pub targets_within : (n : ℕ) (edges : List InitEdge) → All (IsWithin n) edges → All (λ t. t < n) (filter_map (λ e. e.target) edges)
 targets_within n [] h = λ k d l. omega (arith, l)
 targets_within n (e ∷ edges) h =
     option_within n e.target (filter_map (λ x. x.target) edges) (All-head (IsWithin n) e edges h) (targets_within n edges (All-tail (IsWithin n) e edges h))

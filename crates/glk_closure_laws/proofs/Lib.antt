@@ -1,0 +1,4 @@
+pub mod Clauses
+mod GraphClauses
+mod Steps
+pub mod Facts
