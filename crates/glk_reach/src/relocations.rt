@@ -42,7 +42,8 @@ impl RowRelocations<'_, '_> {
     // Relocation `i`, whose target is one of the program's keys.
     pub(crate) fn nth(&self, i: u32) -> Relocation
         requires { i < length (row_relocations self.now.merged.now.program self.now.id.0) }
-        ensures value { slice_get (row_relocations self.now.merged.now.program self.now.id.0) i ≡ Some result }
+        ensures value { slice_get (row_relocations self.now.merged.now.program self.now.id.0) i
+            ≡ Some result }
         ensures within { IsWithin (row_count self.now.merged.now.program) result.target }
     {
         self.reloc(i)
@@ -51,7 +52,8 @@ impl RowRelocations<'_, '_> {
     // The first one that has this offset and a target, by their index.
     pub(crate) fn find(&self, index: &OffsetIndex, offset: u32) -> Option<Relocation>
         requires { IsIndexOf (row_relocations self.now.merged.now.program self.now.id.0) index.now }
-        ensures value { result ≡ reference_at (row_relocations self.now.merged.now.program self.now.id.0) offset }
+        ensures value { result
+            ≡ reference_at (row_relocations self.now.merged.now.program self.now.id.0) offset }
         ensures within { IfSome result (λ reloc.
             IsWithin (row_count self.now.merged.now.program) reloc.target) }
     {
