@@ -20,7 +20,7 @@ use Rattle.glk_closure.proofs.Derivations.{Contains-cons_cases, Contains-nil, Re
 use Rattle.glk_closure_laws.proofs.Clauses.{Clause, AreIn, Closed, member, close_all}
 use Rattle.glk_closure_laws.proofs.GraphClauses.{all_clauses}
 use Rattle.glk_closure_laws.proofs.Steps.{sound, complete}
-use Rattle.glk_closure_laws.specs.Laws.{IsGraphWithin, AreFacts, HasFacts, HasLeast}
+use Rattle.glk_closure_laws.specs.Laws.{IsGraphWithin, AreDerivable, HasFacts, HasLeast}
 
 -- Facts are equal or not.
 
@@ -157,7 +157,7 @@ module _ (g : Graph) (within : IsGraphWithin g) where
   abbrev tests : Fact → Bool
   tests f = is_there (member compare facts.list f)
 
-  pub are_facts : AreFacts g tests
+  pub are_facts : AreDerivable g tests
   are_facts f =
       let t = there_iff (member compare facts.list f) in
       ((λ h. reached f (t.0 h)), (λ r. t.1 (listed f r)))

@@ -12,12 +12,12 @@ pub record IsGraphWithin (g : Graph) : Type 0 where
   pub effects : (k : ℕ) → k < g.keys → All (IsWithin g.keys) (g.effects k)
 
 -- the tests tell exactly the facts that have a derivation
-abbrev pub AreFacts : Graph → (Fact → Bool) → Type 0
-AreFacts g facts = (f : Fact) → IsTrue (facts f) ↔ Reach g f
+abbrev pub AreDerivable : Graph → (Fact → Bool) → Type 0
+AreDerivable g facts = (f : Fact) → IsTrue (facts f) ↔ Reach g f
 
 -- there are such tests
 abbrev pub HasFacts : Type 0
-HasFacts = (g : Graph) → IsGraphWithin g → (facts : Fact → Bool) × AreFacts g facts
+HasFacts = (g : Graph) → IsGraphWithin g → (facts : Fact → Bool) × AreDerivable g facts
 
 -- there is a least set
 abbrev pub HasLeast : Type 0

@@ -11,7 +11,7 @@ use Rattle.glk_closure_laws.proofs.Clauses.{in_tail}
 use Rattle.glk_init.specs.Graph.{InitGraph}
 use Rattle.glk_init.specs.Order.{IsReady, IsNext, InOrder, IsOrder, Walk, IsOnCycle, has_functions}
 use Rattle.glk_init.specs.Tasks.{AreTasks, Awaits, IsTask, awaited}
-use Rattle.glk_init_laws.specs.Existence.{IsSound}
+use Rattle.glk_init_laws.specs.Existence.{IsAcyclicList}
 use Rattle.glk_init_laws.proofs.Leasts.{Has, IsLeastOf, least_of}
 use Rattle.glk_init_laws.proofs.Lists.{Missing, all_in, is_in, lacking, lacks_less}
 
@@ -132,7 +132,7 @@ module _ (g : InitGraph) (root : ℕ) (tasks : List ℕ) (are : AreTasks g root 
     | inl one ↦ build n (earlier ++ (one.0 ∷ [])) (omega (arith, low, lacks earlier one.0 one.1.holds)) (in_order_more earlier one.0 h (is_next earlier one.0 one.1))
   ]
 
-  pub some_list : (list : List ℕ) × IsSound g root list
+  pub some_list : (list : List ℕ) × IsAcyclicList g root list
   some_list =
       let order = build (lacking [] tasks) [] (omega arith) (λ i l. absurd (omega (arith, l))) in
       (filter (has_functions g) order.0, record { list_is = (order.0, order.1, refl); no_cycle = no_cycle })

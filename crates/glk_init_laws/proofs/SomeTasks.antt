@@ -23,7 +23,7 @@ use Rattle.glk_init.specs.Reached.{awaited_graph}
 use Rattle.glk_init.specs.Tasks.{AreTasks, Awaits, IsTask, IsReachedBy, IsWhole, IsFirstUndefined, awaited, undefined_edge}
 use Rattle.glk_init.proofs.OrderLemmas.{targets_defined}
 use Rattle.glk_init.proofs.TaskLemmas.{kept_are_tasks, kept_target, keeps_awaited, awaited_within, targets_within, task_is_defined}
-use Rattle.glk_init_laws.specs.Existence.{AreEdgesWithin, AreWhole, IsSound}
+use Rattle.glk_init_laws.specs.Existence.{AreEdgesWithin, AreWhole, IsAcyclicList}
 use Rattle.glk_init_laws.proofs.Leasts.{least_of}
 use Rattle.glk_init_laws.proofs.Lists.{is_in}
 use Rattle.glk_init_laws.proofs.Ones.{none_is_some}
@@ -99,7 +99,7 @@ module _ (g : InitGraph) (root : ℕ) (whole : AreWhole g root) where
             elim (on_cycle k is) [ inl cycle ↦ inl (is, cycle) | inr fails ↦ inr (λ c. fails c.1) ])
       ]
 
-      pub list_or_cycle : ((cycle : InitCycle) × IsLeastOnCycle g root cycle) ⊎ ((list : List ℕ) × IsSound g root list)
+      pub list_or_cycle : ((cycle : InitCycle) × IsLeastOnCycle g root cycle) ⊎ ((list : List ℕ) × IsAcyclicList g root list)
       list_or_cycle = elim (least_of g IsCyclic cyclic tasks) [
         | inl one ↦ inl (
           record { task = one.0 },
@@ -223,5 +223,5 @@ pub task_keys : (g : InitGraph) (root : ℕ) → AreEdgesWithin g → root < g.k
 task_keys g root edges inside k is = task_is_key g root edges inside is.0 k is.1
 
 pub has_list_or_cycle : (g : InitGraph) (root : ℕ) (tasks : List ℕ) → AreEdgesWithin g → root < g.keys → AreTasks g root tasks → AreWhole g root
-    → ((cycle : InitCycle) × IsLeastOnCycle g root cycle) ⊎ ((list : List ℕ) × IsSound g root list)
+    → ((cycle : InitCycle) × IsLeastOnCycle g root cycle) ⊎ ((list : List ℕ) × IsAcyclicList g root list)
 has_list_or_cycle g root tasks edges inside are whole = list_or_cycle g root whole edges (task_keys g root edges inside) tasks are

@@ -10,19 +10,23 @@ use Rattle.glk_init.specs.Tasks.{AreTasks, IsTask, IsFirstUndefined}
 abbrev pub HaveOwnPositions : InitGraph → ℕ → Type 0
 HaveOwnPositions g root = (a b : ℕ) → IsTask g root a → IsTask g root b → g.position a ≡ g.position b → a ≡ b
 
+-- a root has one list of tasks
 abbrev pub AreTasksOne : Type 0
 AreTasksOne = (g : InitGraph) (root : ℕ) (one other : List ℕ) → AreTasks g root one → AreTasks g root other → one ≡ other
 
+-- one target is the first without a definition
 abbrev pub IsUndefinedOne : Type 0
 IsUndefinedOne =
     (g : InitGraph) (root : ℕ) → HaveOwnPositions g root → (one other : UndefinedTarget)
     → IsFirstUndefined g root one → IsFirstUndefined g root other → one ≡ other
 
+-- a root has one init list
 abbrev pub IsInitListOne : Type 0
 IsInitListOne =
     (g : InitGraph) (root : ℕ) → HaveOwnPositions g root → (one other : List ℕ)
     → IsInitList g root one → IsInitList g root other → one ≡ other
 
+-- one task is the least on a cycle
 abbrev pub IsCycleOne : Type 0
 IsCycleOne =
     (g : InitGraph) (root : ℕ) → HaveOwnPositions g root → (one other : InitCycle)
