@@ -20,3 +20,4 @@ pub mod ImageTables
 pub mod ImageMemory
 pub mod ImageReadBack
 pub mod ImagePatched
+pub mod WriterLemmas

@@ -2,6 +2,7 @@ pub mod Gabi
 pub mod Sections
 pub mod Image
 pub mod Placing
+pub mod Frames
 pub mod Views
 pub mod Written
 pub mod First

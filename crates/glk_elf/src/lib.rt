@@ -7,6 +7,7 @@
 //! takes no memory.
 #![tactic(auto)]
 
+mod frame;
 mod gabi;
 mod laws;
 mod layout;
@@ -20,10 +21,11 @@ mod strings;
 mod symbols;
 mod write;
 
+pub use frame::{Frame, SymbolRow};
 pub use laws::{images_read_back, memory_within, sections_in_file, sections_patched};
 pub use layout::{IMAGE_BASE, TEXT_START};
-pub use parts::{ElfParts, SectionBytes, SectionPart, SymRow};
+pub use parts::{ElfParts, SectionBytes, SymRow};
 pub use placing::{assign_addresses, start_multiple};
 pub use read::{ElfBad, ElfSection, ElfSym, ElfView};
 pub use sections::{PLACED_SECTIONS, Section};
-pub use write::{image_size, write_elf};
+pub use write::{image_size, write_elf, write_frame};

@@ -3,3 +3,6 @@ pub mod PatchedImages
 pub mod WrittenBytes
 pub mod RowLemmas
 pub mod FillLemmas
+pub mod BlankSections
+pub mod WholeImages
+pub mod OneImage

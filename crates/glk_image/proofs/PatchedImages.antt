@@ -15,7 +15,7 @@ use Rattle.glk_reloc.specs.Fields.{IsWithin, IsOutside, end_of}
 use Rattle.glk_reloc.specs.Patched.{IsPatched}
 use Rattle.glk_reloc.specs.Parts.{fields_of, AreCut}
 use Rattle.glk_reloc.proofs.Joined.{part_patched}
-use Rattle.glk_image.specs.Image.{section_fields, AreBySection, IsPatchedImage, ImagePatched}
+use Rattle.glk_image.specs.Patched.{section_fields, AreBySection, IsPatchedImage, ImagePatched}
 
 -- what holds of each chunk's fields holds of all
 all_chunks : (P : Field → Type 0) (chunks : List (List Field)) → ((k : ℕ) → k < length chunks → All P (get_or chunks k [])) → All P (fields_of chunks)

@@ -1,4 +1,5 @@
 pub mod Contents
+pub mod Patched
 pub mod Image
 pub mod Laws
 pub mod Rows

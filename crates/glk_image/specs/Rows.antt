@@ -1,38 +1,47 @@
--- The order of the rows of an image's symbol table.
-use Rattle.std.specs.Prelude.{ℕ, ◌==◌, ◌&&◌, not, Bool, false, is_none, None, List, [], ◌∷◌, length, filter, get_or}
-use Rattle.std.specs.Option.{option_map_or}
-use Rattle.std.specs.List.{flat_map, range_with_len}
+-- The rows of an image's symbol table.
+use Rattle.std.specs.Prelude.{ℕ, ◌==◌, ◌&&◌, if◌then◌else◌, not, Bool, true, false, List, [], ◌++◌, length, filter}
+use Rattle.glk_elf.specs.Image.{Row}
 use Rattle.glk_elf.specs.declared.sections.Section.{Section}
-use Rattle.glk_elf.specs.declared.sections.Section.TheVariants.{Text, Rodata, Noptrdata, Data, Bss, Noptrbss}
+use Rattle.glk_elf.specs.declared.sections.Section.TheVariants.{Text, Tbss}
 use Rattle.glk_elf.specs.Views.{number_of}
-use Rattle.glk_image.specs.declared.rows.RowKey.{RowKey}
-use Rattle.glk_image.specs.declared.rows.RowGroup.{RowGroup}
-use Rattle.glk_image.specs.declared.rows.RowGroup.TheVariants.{Local, Global, Made}
+use Rattle.glk_image.specs.declared.rows.Symbol.{Symbol}
 
--- a symbol is in a section
-abbrev pub is_at : Section → RowKey → Bool
-is_at section key = option_map_or (λ at. number_of at == number_of section) key.section false
+-- the ELF types of symbols
+abbrev pub STT_OBJECT : ℕ
+STT_OBJECT = 1
 
--- a symbol has a row in a group: it has a name, and the group's binding and section; a made name is in none
-abbrev pub has_row : RowGroup → RowKey → Bool
-has_row (Local section) key = key.is_named && (key.is_local && is_at section key)
-has_row (Global section) key = key.is_named && (not key.is_local && is_at section key)
-has_row Made key = key.is_named && is_none key.section
+abbrev pub STT_FUNC : ℕ
+STT_FUNC = 2
 
--- the groups in the order of their rows: local before global, each by section, and made names last
-abbrev pub groups : List RowGroup
-groups =
-    Local Text ∷ Local Rodata ∷ Local Noptrdata ∷ Local Data ∷ Local Bss ∷ Local Noptrbss
-    ∷ Global Text ∷ Global Rodata ∷ Global Noptrdata ∷ Global Data ∷ Global Bss ∷ Global Noptrbss
-    ∷ Made ∷ []
+abbrev pub STT_TLS : ℕ
+STT_TLS = 6
 
-abbrev pub no_key : RowKey
-no_key = record { section = None; is_local = false; is_named = false }
+-- the ELF type of a symbol in a section
+abbrev pub type_in : Section → ℕ
+type_in Text = STT_FUNC
+type_in Tbss = STT_TLS
+type_in other = STT_OBJECT
 
--- the indices of the symbols that have a row in a group, in load order
-abbrev pub rows_in : List RowKey → RowGroup → List ℕ
-rows_in keys group = filter (λ i. has_row group (get_or keys i no_key)) (range_with_len 0 (length keys))
+-- the row of a symbol
+abbrev pub row_of : Symbol → Row
+row_of s = record {
+  name = s.name.now;
+  local = s.is_local;
+  kind = type_in s.section;
+  section = number_of s.section;
+  value = s.value;
+  size = s.size;
+}
 
--- the indices of all symbols that have a row, group after group
-abbrev pub row_order : List RowKey → List ℕ
-row_order keys = flat_map (rows_in keys) groups
+-- a row is of a table's part: it has a name, and is local or is not
+abbrev pub has_row : Bool → Row → Bool
+has_row local row = not (length row.name == 0) && (if local then row.local else not row.local)
+
+-- the rows of one part, in their order
+abbrev pub rows_bound : Bool → List Row → List Row
+rows_bound local rows = filter (has_row local) rows
+
+-- The rows of a symbol table after the null row: of rows in image order, made names last, those with a name, the local
+-- ones before the others. A stripped image has none.
+abbrev pub table_rows : Bool → List Row → List Row
+table_rows strip rows = if strip then [] else rows_bound true rows ++ rows_bound false rows
