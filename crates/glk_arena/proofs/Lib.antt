@@ -3,6 +3,7 @@ pub mod ConfigLemmas
 pub mod BuiltinLemmas
 pub mod PackageLemmas
 pub mod StoredLemmas
+pub mod SharedRules
 pub mod WorldLemmas
 pub mod TableLemmas
 pub mod OneLoad

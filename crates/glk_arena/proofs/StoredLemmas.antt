@@ -1,5 +1,5 @@
 -- What is stored of the objects of a file.
-use Rattle.std.proofs.Common.{◌≡◌, ◌<◌, ◌≤◌, ◌+◌, ◌++◌, ℕ, zero, suc, List, [], ◌∷◌, length, take, get_or, map, All, slice_range, refl, sym, ap, subst, ◌∙◌, arith, add-one, drop, drop-cons, true, false, cond, Some, None, Ok}
+use Rattle.std.proofs.Common.{◌≡◌, ◌<◌, ◌≤◌, ◌+◌, ◌++◌, ℕ, zero, suc, List, [], ◌∷◌, Option, length, take, get_or, map, All, slice_range, refl, sym, ap, subst, ◌∙◌, arith, add-one, drop, drop-cons, true, false, cond, Some, None, Ok}
 use Rattle.std.specs.List.{sum_by, find}
 use Rattle.std.specs.Option.{unwrap_or, option_or}
 use Rattle.std.proofs.Math.ListN.{drop_of_length-le}
@@ -128,12 +128,12 @@ unfolding package_fingerprint first_set
 package_print p = refl
 
 -- the long hashes of an object and the later ones
-pub width_step : (objects : List (List ℕ)) (i : ℕ) (object : List ℕ) → i < length objects → object ≡ get_or objects i []
-    → first_width (drop i objects) ≡ option_or (hash_width object) (first_width (drop (i + 1) objects))
-width_step objects i object l read =
-    ap first_width (drop-cons objects i [] l)
-    ∙ ap (λ o. option_or (hash_width o) (first_width (drop (suc i) objects))) (sym read)
-    ∙ ap (λ k. option_or (hash_width object) (first_width (drop k objects))) (sym (add-one i))
+pub stored_width : (file : List ℕ) (objects : List StoredObject) (i : ℕ) (d : StoredObject) (width : Option ℕ) → i < length objects → width ≡ hash_width (slice_range file (get_or objects i d).at (get_or objects i d).end)
+    → first_width (map (stored_data file) (drop i objects)) ≡ option_or width (first_width (map (stored_data file) (drop (i + 1) objects)))
+stored_width file objects i d width l is =
+    ap (λ hs. first_width (map (stored_data file) hs)) (drop-cons objects i d l)
+    ∙ ap (λ w. option_or w (first_width (map (stored_data file) (drop (suc i) objects)))) (sym is)
+    ∙ ap (λ k. option_or width (first_width (map (stored_data file) (drop k objects)))) (sym (add-one i))
 
-pub width_end : (objects : List (List ℕ)) (i : ℕ) → length objects ≤ i → first_width (drop i objects) ≡ None
-width_end objects i g = rw (drop_of_length-le objects g) refl
+pub stored_width_end : (file : List ℕ) (objects : List StoredObject) (i : ℕ) → length objects ≤ i → first_width (map (stored_data file) (drop i objects)) ≡ None
+stored_width_end file objects i g = rw (drop_of_length-le objects g) refl

@@ -11,4 +11,5 @@ pub mod ImportRefs
 pub mod Tables
 pub mod Waves
 pub mod LoadParts
+pub mod WaveFiles
 pub mod WaveLoop

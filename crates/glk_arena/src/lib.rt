@@ -11,7 +11,9 @@ mod packages;
 mod parse_packages;
 mod paths;
 mod read_files;
+mod shared_rules;
 mod stored;
+mod wave_files;
 mod waves;
 
 pub use builtins::{Builtin, Builtins};

@@ -1,11 +1,11 @@
 // The objects of the files of a wave.
-ghost use Rattle.std.specs.Prelude.{◌≡◌, ◌≤◌, ◌+◌, length, drop, map, Ok, Err, IfOk, IfErr};
+ghost use Rattle.std.specs.Prelude.{◌≡◌, ◌≤◌, ◌+◌, length, drop, Err, IfOk, IfErr, IfSome};
 ghost use Rattle.std.specs.List.{sum_by};
 ghost use Rattle.glk_package.specs.ObjectRules.{rules_view};
-ghost use Rattle.glk_package.specs.Package.{PackageFile};
 ghost use Rattle.glk_arena.specs.World.{file_bytes, package_limit};
 ghost use Rattle.glk_base.specs.Limits.{file_limit};
 ghost use Rattle.glk_arena.specs.Stored.{AreStored, IsWhole};
+ghost use Rattle.glk_arena.specs.WaveFiles.{IsFoundUniform};
 ghost use Rattle.glk_arena.specs.LoadParts.{inputs_by, AppendsWave, HoldsStored, RefusesFormats, IsFormatRefusal, IsPackageIn};
 ghost use Rattle.glk_package.specs.PackageRefusal.{IsRefusedFor};
 
@@ -13,30 +13,37 @@ use crate::loaded::Loaded;
 use crate::loader::Loader;
 use crate::paths::PackagePaths;
 use crate::read_files::file_of;
-use crate::stored::{LoadedPackage, StoredObjects, store_objects};
+use crate::shared_rules::meets_rules;
+use crate::stored::{LoadedPackage, StoredObjects};
+use crate::wave_files::{WaveFile, stored_objects};
 use glk_base::{Fault, Text};
 use glk_cause::Cause;
-use glk_package::{ObjectRules, objects, package_refusal};
+use glk_package::{ObjectRules, package_refusal};
 use std::alloc::Global;
 use std::collections::VecDeque;
 
-// What is kept of the objects of the file at this path.
+// What is stored of the objects of the file at this path. What was found of them before is used where
+// it goes with what the rules ask.
 fn parse_package(
     alloc: Global,
     rules: ObjectRules<'_>,
     path: &[u8],
     file: &[u8],
+    found: Option<StoredObjects>,
 ) -> Result<StoredObjects, Fault<Cause>>
-    requires { length file.now ≤ file_limit }
+    requires short { length file.now ≤ file_limit }
+    requires found { IfSome found (IsFoundUniform file.now) }
     ensures ok { IfOk result (HoldsStored (rules_view rules.entry) file.now) }
     ensures stored { IfOk result (λ kept. AreStored file.now kept.list.items) }
     ensures err { IfErr result (IsRefusedFor (IsFormatRefusal (rules_view rules.entry) file.now path.now)) }
 {
-    match objects(alloc, file, rules) {
-        Ok(entries) => {
-            let kept = store_objects(alloc, file, &entries)?;
-            Ok(kept)
+    if let Some(found) = found {
+        if meets_rules(rules, file, &found) {
+            return Ok(found);
         }
+    }
+    match stored_objects(alloc, rules, file) {
+        Ok(kept) => Ok(kept),
         Err(Fault::Bad(bad)) => Err(package_refusal(alloc, path, bad)),
         Err(Fault::OutOfMemory) => Err(Fault::OutOfMemory),
     }
@@ -48,15 +55,15 @@ fn load_package(
     rules: ObjectRules<'_>,
     name: &[u8],
     path: &[u8],
-    file: Text,
+    file: WaveFile,
 ) -> Result<LoadedPackage, Fault<Cause>>
-    requires { length file ≤ file_limit }
     ensures ok { IfOk result (IsPackageIn (rules_view rules.entry) name.now file) }
     ensures whole { IfOk result IsWhole }
     ensures err { IfErr result (IsRefusedFor (IsFormatRefusal (rules_view rules.entry) file path.now)) }
 {
     let name = Text::new(alloc, name)?;
-    match parse_package(alloc, rules, path, file.as_bytes()) {
+    let (file, found) = file.into_parts();
+    match parse_package(alloc, rules, path, file.as_bytes(), found) {
         Ok(kept) => Ok(LoadedPackage::new(name, file, kept)),
         Err(fault) => Err(fault),
     }
@@ -69,7 +76,7 @@ pub(crate) fn append_wave(
     loader: Loader<'_>,
     names: &PackagePaths,
     earlier: Loaded,
-    files: VecDeque<Text>,
+    files: VecDeque<WaveFile>,
 ) -> Result<Loaded, Fault<Cause>>
     requires all { length earlier + length files.items ≡ length names.now }
     requires few { length names.now ≤ package_limit }

@@ -7,7 +7,8 @@ ghost use Rattle.glk_arena.specs.LoadParts.{inputs_by, HasFile, ReadsPaths};
 
 use crate::loader::Loader;
 use crate::paths::PackagePaths;
-use glk_base::{FILE_LIMIT, Fault, Text};
+use crate::wave_files::WaveFile;
+use glk_base::{FILE_LIMIT, Fault};
 use glk_cause::{Cause, read_named};
 use glk_io::Files;
 use std::alloc::Global;
@@ -37,7 +38,7 @@ pub(crate) fn read_wave<F: Files>(
     from: usize,
     limit: u64,
     files: &mut F,
-) -> Result<VecDeque<Text>, Fault<Cause>>
+) -> Result<VecDeque<WaveFile>, Fault<Cause>>
     requires from { from ≤ length names.now }
     requires limit { limit ≤ file_limit }
     requires files { All (HasFile (inputs_by loader)) names.now }
@@ -52,7 +53,7 @@ pub(crate) fn read_wave<F: Files>(
         let path = file_of(loader, names.get(i));
         let file = read_named(alloc, path, left, FILE_LIMIT, files)?;
         left -= file.as_bytes().len() as u64;
-        wave.push_back(file)?;
+        wave.push_back(WaveFile::new(file))?;
     }
     Ok(wave)
 }

@@ -33,6 +33,18 @@ pub(crate) struct StoredObjects {
     pub list: Vec<StoredObject>,
 }
 
+impl StoredObjects {
+    // The header line of the first object.
+    pub(crate) fn line(&self) -> Option<&[u8]>
+        ensures { option_copied result ≡ self.now.header }
+    {
+        match &self.header {
+            Some(line) => Some(line.as_bytes()),
+            None => None,
+        }
+    }
+}
+
 // A copy of a header line.
 pub(crate) fn copy_line(alloc: Global, line: Option<&[u8]>) -> Result<Option<Text>, OutOfMemory>
     ensures { IfOk result (λ copy. copy ≡ option_copied line.entry) }
@@ -117,6 +129,20 @@ fn first_fingerprint(file: &[u8], objects: &[StoredObject]) -> [u8; 8]
         }
     }
     NO_FINGERPRINT
+}
+
+// The length of the long hashes of the first of these objects that has any.
+pub(crate) fn first_hash_width(file: &[u8], objects: &[StoredObject]) -> Option<u32>
+    requires { All (IsStored file.now) objects.now }
+    ensures { result ≡ first_width (map (stored_data file.now) objects.now) }
+{
+    for object in objects {
+        let view = object.shape.view(&file[object.at..object.end]);
+        if let Some(width) = view.hash_width() {
+            return Some(width);
+        }
+    }
+    None
 }
 
 // A loaded package. Contracts see its path, its file, the header line of its first object, and the
@@ -218,12 +244,7 @@ impl LoadedPackage {
     pub(crate) fn hash_width(&self) -> Option<u32>
         ensures { result ≡ first_width self.now.objects }
     {
-        for i in 0..self.objects() {
-            if let Some(width) = self.object(i).hash_width() {
-                return Some(width);
-            }
-        }
-        None
+        first_hash_width(self.file.as_bytes(), &self.objects)
     }
 
     // How many symbols its objects have.

@@ -21,10 +21,12 @@ use crate::loader::Loader;
 use crate::parse_packages::append_wave;
 use crate::paths::PackagePaths;
 use crate::read_files::{MAIN, read_wave};
+use crate::wave_files::check_files;
 use glk_base::{FILE_LIMIT, Fault, OutOfMemory, Text};
 use glk_cause::{Cause, Limit};
 use glk_io::Files;
 use std::alloc::Global;
+use std::thread::Threads;
 
 // The path of the package that is loaded where it is listed, whoever imports it.
 const RUNTIME: &[u8] = b"runtime";
@@ -49,7 +51,8 @@ fn first_names(alloc: Global, config: &Config) -> Result<PackagePaths, OutOfMemo
 
 // The packages of a wave after the earlier ones: all their files are read, and then all formats
 // are checked.
-fn load_files<F: Files>(
+fn load_files<R: Threads + Sync, F: Files>(
+    rt: &R,
     alloc: Global,
     loader: Loader<'_>,
     names: &PackagePaths,
@@ -67,7 +70,8 @@ fn load_files<F: Files>(
 {
     let from = earlier.packages() as usize;
     let left = FILE_LIMIT - earlier.bytes();
-    let wave = read_wave(alloc, loader, names, from, left, files)?;
+    let mut wave = read_wave(alloc, loader, names, from, left, files)?;
+    check_files(rt, alloc, &mut wave);
     let now = append_wave(alloc, loader, names, earlier, wave)?;
     Ok(now)
 }
@@ -130,7 +134,8 @@ struct Loading {
 }
 
 // Loads one wave after the packages that are loaded, and lists the next.
-fn one_wave<F: Files>(
+fn one_wave<R: Threads + Sync, F: Files>(
+    rt: &R,
     alloc: Global,
     loader: Loader<'_>,
     loading: Loading,
@@ -151,7 +156,7 @@ fn one_wave<F: Files>(
     } = loading;
     let earlier = list.packages() as usize;
     let known = refs.len();
-    let now = load_files(alloc, loader, &names, list, files)?;
+    let now = load_files(rt, alloc, loader, &names, list, files)?;
     add_imports(&now, &mut refs, earlier)?;
     let wave = WaveImports {
         list: &now,
@@ -183,7 +188,8 @@ fn one_wave<F: Files>(
 /// wave first all files are read, then all formats are checked, then fingerprints are compared, then
 /// each import has to be loaded or listed. Files have at most 2^30 bytes together, and there are at
 /// most 65,536 packages, which are counted as a wave is listed. Files change nothing.
-pub fn load_waves<F: Files>(
+pub fn load_waves<R: Threads + Sync, F: Files>(
+    rt: &R,
     alloc: Global,
     main: &str,
     config: &Config,
@@ -203,7 +209,7 @@ pub fn load_waves<F: Files>(
         compared: 0,
     };
     'waves: loop {
-        loading = one_wave(alloc, loader, loading, files)?;
+        loading = one_wave(rt, alloc, loader, loading, files)?;
         if loading.names.len() == loading.list.packages() as usize {
             let Loading {
                 names: _,

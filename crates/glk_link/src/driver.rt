@@ -17,8 +17,8 @@ use std::thread::Threads;
 /// output file. It reports the number of packages that were loaded, of their definitions and of those
 /// that are kept, and the length of the image.
 ///
-/// All memory but the files' own is taken before the write. One thread does the work, so far: the
-/// threads of `rt` and the gate are not used.
+/// All memory but the files' own is taken before the write. The threads of `rt` check the objects that
+/// are loaded, and one thread does the rest of the work, so far: the gate is not used.
 ///
 /// # Errors
 /// The first refusal of the passes, in their order: then no file is changed, and no count rose.
@@ -36,13 +36,12 @@ pub fn link<R: Threads + Sync, F: Files, G: Gate>(
     ensures means { LinkAnswer (F.state files.old) (F.state files.new) opts.now result }
     ensures due { AnswersUnlessIoFails (F.state files.old) (F.state files.new) opts.now result }
 {
-    let _ = rt;
     let _ = gate;
     one_load();
     if asks_unbuilt(opts) {
         return Err(Fault::Bad(Cause::NotYet { form: Form::Flag }));
     }
-    link_files(alloc, opts, files)
+    link_files(rt, alloc, opts, files)
 }
 
 /// Loads the packages of a link: the file that the options name, and what it needs of the packages
@@ -51,7 +50,8 @@ pub fn link<R: Threads + Sync, F: Files, G: Gate>(
 /// # Errors
 /// The first refusal of the passes up to there, in their order: then no count rose. `ReadFault`, with
 /// a count of reads that rose. Out of memory: no count rose.
-pub fn load<F: Files>(
+pub fn load<R: Threads + Sync, F: Files>(
+    rt: &R,
     alloc: Global,
     opts: &LinkOptions,
     files: &mut F,
@@ -61,11 +61,12 @@ pub fn load<F: Files>(
     if asks_unbuilt(opts) {
         return Err(Fault::Bad(Cause::NotYet { form: Form::Flag }));
     }
-    load_packages(alloc, opts, files)
+    load_packages(rt, alloc, opts, files)
 }
 
 // The packages of a link whose options are supported.
-fn load_packages<F: Files>(
+fn load_packages<R: Threads + Sync, F: Files>(
+    rt: &R,
     alloc: Global,
     opts: &LinkOptions,
     files: &mut F,
@@ -74,12 +75,13 @@ fn load_packages<F: Files>(
     ensures { PackagesAnswer (F.state files.old) (F.state files.new) opts.now result }
 {
     let config = read_config(alloc, opts, files)?;
-    let loaded = load_waves(alloc, opts.main.as_str(), &config, files)?;
+    let loaded = load_waves(rt, alloc, opts.main.as_str(), &config, files)?;
     Ok(loaded)
 }
 
 // The passes of a link whose options are supported.
-fn link_files<F: Files>(
+fn link_files<R: Threads + Sync, F: Files>(
+    rt: &R,
     alloc: Global,
     opts: &LinkOptions,
     files: &mut F,
@@ -87,7 +89,7 @@ fn link_files<F: Files>(
     requires { AsksUnbuilt opts.now → ⊥ }
     ensures { LinkAnswer (F.state files.old) (F.state files.new) opts.now result }
 {
-    let loaded = load_packages(alloc, opts, files)?;
+    let loaded = load_packages(rt, alloc, opts, files)?;
     let output = link_packages(alloc, &loaded, opts.entry.as_str().as_bytes())?;
     write_named(alloc, opts.out.as_str(), &output.image, files)?;
     Ok(output.report)

@@ -50,7 +50,7 @@ fn rows_past<G: Gate, R: Threads + Sync>(
 
 #[test]
 fn each_worker_passes_and_leaves_with_its_rows(rt: HostRuntime) -> Result<(), Fail> {
-    let loaded = loaded(rt.alloc(), MAIN, OTHER)?;
+    let loaded = loaded(&rt, rt.alloc(), MAIN, OTHER)?;
     for (workers, all) in [(1, 1), (2, 3), (64, u64::MAX)] {
         let gate = Recorder::new();
         let rows = rows_past(&rt, rt.alloc(), &loaded, workers, &gate)?;
@@ -64,7 +64,7 @@ fn each_worker_passes_and_leaves_with_its_rows(rt: HostRuntime) -> Result<(), Fa
 
 #[test]
 fn two_workers_run_at_once(rt: HostRuntime) -> Result<(), Fail> {
-    let loaded = loaded(rt.alloc(), MAIN, OTHER)?;
+    let loaded = loaded(&rt, rt.alloc(), MAIN, OTHER)?;
     let gate = Held::new();
     let rows = rows_past(&rt, rt.alloc(), &loaded, 2, &gate)?;
     assert!(rt; gate.in_time.load(Ordering::SeqCst) == 1);
@@ -108,7 +108,7 @@ fn found<R: Threads + Sync>(
 
 #[test]
 fn names_are_found_with_their_definitions(rt: HostRuntime) -> Result<(), Fail> {
-    let loaded = loaded(rt.alloc(), MAIN, OTHER)?;
+    let loaded = loaded(&rt, rt.alloc(), MAIN, OTHER)?;
     // The reference of main is the least row of the key that p defines.
     assert!(rt; found(&rt, rt.alloc(), &loaded, 1, b"p.f", 1)? == (1, 2));
     assert!(rt; found(&rt, rt.alloc(), &loaded, 2, b"p.f", 1)? == (1, 2));
@@ -153,7 +153,7 @@ data c3
 #[test]
 fn the_larger_of_two_dupok_definitions_is_chosen(rt: HostRuntime) -> Result<(), Fail> {
     for (main, other, chosen) in [(SMALL, LARGE, 1), (LARGE, SMALL, 0)] {
-        let loaded = loaded(rt.alloc(), main, other)?;
+        let loaded = loaded(&rt, rt.alloc(), main, other)?;
         let is = found(&rt, rt.alloc(), &loaded, 2, b"d", 1)?;
         assert!(rt; is == (0, chosen));
     }
@@ -172,7 +172,7 @@ fn of_row(merged: &Merged<'_>, id: u32) -> (u32, u32) {
 
 #[test]
 fn definitions_of_one_hash_are_one_symbol(rt: HostRuntime) -> Result<(), Fail> {
-    let loaded = loaded(rt.alloc(), SMALL_HASHED, LARGE_HASHED)?;
+    let loaded = loaded(&rt, rt.alloc(), SMALL_HASHED, LARGE_HASHED)?;
     let builtins = Builtins::none(rt.alloc());
     match merged(&rt, rt.alloc(), &loaded, &builtins, 2, &Open)? {
         Ok(merged) => assert!(rt; of_row(&merged, 1) == (0, 1)),
@@ -217,7 +217,7 @@ fn clash_of_x<R: Threads + Sync>(
 
 #[test]
 fn two_definitions_with_content_clash(rt: HostRuntime) -> Result<(), Fail> {
-    let loaded = loaded(rt.alloc(), FIRST_X, SECOND_X)?;
+    let loaded = loaded(&rt, rt.alloc(), FIRST_X, SECOND_X)?;
     for workers in [1, 2, 64] {
         assert!(rt; clash_of_x(&rt, rt.alloc(), &loaded, workers)? == (0, 2));
     }
@@ -242,7 +242,7 @@ fn builtin_key(merged: &Merged<'_>, index: u32) -> u32 {
 
 #[test]
 fn references_into_the_builtin_list_mean_its_rows(rt: HostRuntime) -> Result<(), Fail> {
-    let loaded = loaded(rt.alloc(), MAIN, OTHER)?;
+    let loaded = loaded(&rt, rt.alloc(), MAIN, OTHER)?;
     let builtins = Builtins::parse(rt.alloc(), b"runtime.g 1\np.f 1\n")?;
     match merged(&rt, rt.alloc(), &loaded, &builtins, 2, &Open)? {
         Ok(merged) => {

@@ -24,12 +24,17 @@ fn put(alloc: Global, files: &mut MemFiles, path: &str, text: &str) -> Result<()
 }
 
 // The object of `main`, which imports `p`, and that of `p`, loaded in this order.
-pub fn loaded(alloc: Global, main: &str, other: &str) -> Result<Loaded, Fail> {
+pub fn loaded<R: Threads + Sync>(
+    rt: &R,
+    alloc: Global,
+    main: &str,
+    other: &str,
+) -> Result<Loaded, Fail> {
     let mut files = MemFiles::new(Vec::new(alloc), Vec::new(alloc));
     put(alloc, &mut files, "main", main)?;
     put(alloc, &mut files, "p", other)?;
     let config = Config::parse(alloc, b"packagefile p=p\n")?;
-    match load_waves(alloc, "main", &config, &mut files) {
+    match load_waves(rt, alloc, "main", &config, &mut files) {
         Ok(loaded) => Ok(loaded),
         Err(_) => Err(Fail::from("refused")),
     }

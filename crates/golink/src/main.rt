@@ -3,8 +3,9 @@
 
 mod arguments;
 
-use glk_io::{OsFiles, OsSink, OsSource};
+use glk_io::{OsSink, OsSource};
 use glk_run::{report, run};
+use glk_system::OsFiles;
 use std::process::ExitCode;
 
 fn main(rt: HostRuntime) -> ExitCode {

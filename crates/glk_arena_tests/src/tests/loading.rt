@@ -5,6 +5,7 @@ use glk_arena::{Loaded, load_waves};
 use glk_base::{SymId, Text};
 use std::alloc::Global;
 use std::test::Fail;
+use std::thread::Threads;
 
 // The paths of loaded packages in load order, each with a space after it.
 fn order_of(alloc: Global, loaded: &Loaded) -> Result<Text, Fail> {
@@ -17,9 +18,14 @@ fn order_of(alloc: Global, loaded: &Loaded) -> Result<Text, Fail> {
 }
 
 // Whether these packages are loaded in this order.
-fn loads(alloc: Global, packages: &str, order: &str) -> Result<bool, Fail> {
+fn loads<R: Threads + Sync>(
+    rt: &R,
+    alloc: Global,
+    packages: &str,
+    order: &str,
+) -> Result<bool, Fail> {
     let (mut files, config) = world_of(alloc, packages)?;
-    match load_waves(alloc, "main", &config, &mut files) {
+    match load_waves(rt, alloc, "main", &config, &mut files) {
         Ok(loaded) => Ok(order_of(alloc, &loaded)? == Text::new(alloc, order.as_bytes())?),
         Err(_) => Err(Fail::from("refused")),
     }
@@ -35,7 +41,7 @@ fn packages_are_loaded_wave_by_wave(rt: HostRuntime) -> Result<(), Fail> {
         ("main b\nb#3 c#1\nc b#3", "main b c "),
         ("main b#5\nb c\nc#2 b#4", "main b c "),
     ] {
-        assert!(rt; loads(rt.alloc(), packages, order)?, "of {packages}");
+        assert!(rt; loads(&rt, rt.alloc(), packages, order)?, "of {packages}");
     }
     Ok(())
 }
@@ -49,7 +55,7 @@ fn loaded_packages_are_found_with_their_objects(rt: HostRuntime) -> Result<(), F
     put(alloc, &mut files, "main", &main.file(alloc, LINE)?)?;
     let other = Object::new(alloc, 7, 1);
     put(alloc, &mut files, "x.y/z.w", &other.file(alloc, LINE)?)?;
-    let Ok(loaded) = load_waves(alloc, "main", &config, &mut files) else {
+    let Ok(loaded) = load_waves(&rt, alloc, "main", &config, &mut files) else {
         return Err(Fail::from("refused"));
     };
     assert_eq!(rt; loaded.objects(), 2);
@@ -68,7 +74,7 @@ fn a_stored_path_means_the_equal_one_before_the_escaped_one(rt: HostRuntime) -> 
     let alloc = rt.alloc();
     let packages = "main a.b/c.d a.b/c%2ed x.y\na.b/c.d\na.b/c%2ed\nx.y";
     let (mut files, config) = world_of(alloc, packages)?;
-    let Ok(loaded) = load_waves(alloc, "main", &config, &mut files) else {
+    let Ok(loaded) = load_waves(&rt, alloc, "main", &config, &mut files) else {
         return Err(Fail::from("refused"));
     };
     for (stored, want) in [

@@ -21,11 +21,6 @@ get-name-requires c =
     let parts = front c.loop-file.rest.items c.pop_front.new.self.items c.in-Some.file c.in-Some.ensures.items in
     omega (arith, parts.0, c.loop-file.invariant.all, c.packages.ensures.value)
 
-pub load_package-requires : goal.load_package-requires
-load_package-requires c =
-    let parts = front c.loop-file.rest.items c.pop_front.new.self.items c.in-Some.file c.in-Some.ensures.items in
-    omega (arith, parts.1, c.loop-file.invariant.small)
-
 pub push-requires-clause-few : goal.push-requires-clause-few
 push-requires-clause-few c =
     let parts = front c.loop-file.rest.items c.pop_front.new.self.items c.in-Some.file c.in-Some.ensures.items in

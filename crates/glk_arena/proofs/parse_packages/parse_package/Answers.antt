@@ -1,20 +1,12 @@
-use Rattle.std.proofs.Common.{List, length, subst, ap, arith}
-use Rattle.std.specs.List.{sum_by}
-use Rattle.glk_package.specs.ObjectEntry.{ObjectEntry}
-use Rattle.glk_arena.specs.Stored.{Stores}
-use Rattle.glk_arena.proofs.StoredLemmas.{bytes_are}
+use Rattle.std.proofs.Common.{Option, IfSome, subst}
+use Rattle.glk_package.specs.ObjectRules.{rules_view}
+use Rattle.glk_arena.specs.declared.stored.StoredObjects.{StoredObjects}
+use Rattle.glk_arena.specs.WaveFiles.{IsFoundUniform}
+use Rattle.glk_arena.proofs.SharedRules.{found_meets}
 use Rattle.glk_arena.proofs.parse_packages.parse_package.Goals as goal
 
-pub returns-in_ok-kept-in-Ok-clause-ok : goal.returns-in_ok-kept-in-Ok-clause-ok
-returns-in_ok-kept-in-Ok-clause-ok c =
-    let S : List ObjectEntry → Type 0 = λ os. Stores c.args.file.now os c.in_ok-kept-in-Ok.kept in
-    record { objects = c.in-Ok.entries.items; holds = c.in-Ok.ensures.ok; stores = subst S c.deref.ensures.value c.in_ok-kept-in-Ok.ensures.same }
-
-pub returns-in_ok-kept-in-Ok-clause-stored : goal.returns-in_ok-kept-in-Ok-clause-stored
-returns-in_ok-kept-in-Ok-clause-stored c =
-    let S : List ObjectEntry → Type 0 = λ os. Stores c.args.file.now os c.in_ok-kept-in-Ok.kept in
-    let stores = subst S c.deref.ensures.value c.in_ok-kept-in-Ok.ensures.same in
-    record {
-      each = c.in_ok-kept-in-Ok.ensures.stored;
-      fit = omega (arith, ap (λ xs. sum_by length xs) stores.data_are, bytes_are c.in-Ok.entries.items, c.in-Ok.ensures.fit);
-    }
+pub returns-then-meets_rules-clause-ok : goal.returns-then-meets_rules-clause-ok
+returns-then-meets_rules-clause-ok c =
+    let F : Option StoredObjects → Type 0 = λ found. IfSome found (IsFoundUniform c.args.file.now) in
+    let found : IsFoundUniform c.args.file.now c.in-Some.found = subst F c.in-Some.is c.requires.found in
+    found_meets (rules_view c.args.rules) c.args.file.now c.in-Some.found found.holds (c.meets_rules.ensures c.if-meets_rules.true)

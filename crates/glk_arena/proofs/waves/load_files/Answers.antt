@@ -12,5 +12,6 @@ returns-in_err-wave-clause-err g c =
 pub returns-in_err-now-clause-err : goal.returns-in_err-now-clause-err
 returns-in_err-now-clause-err g c =
     let reads = rw (c.packages-from.ensures.value, c.bytes-left.ensures.value) at c.in_ok-wave.ensures.reads.1 in
+    let err = rw c.check_files.ensures at c.in_err-now.ensures.err in
     err_exit _ c.from_residual-in_err-now.result c.in_err-now.field-0.0 c.from_residual-in_err-now.ensures.1
-    (format_refused (inputs_by c.args.loader) _ _ c.args.earlier c.args.names.now c.in_ok-wave.wave.items c.in_err-now.field-0.0 c.in_ok-wave.ensures.reads.0 c.requires.files reads c.in_err-now.ensures.err)
+    (format_refused (inputs_by c.args.loader) _ _ c.args.earlier c.args.names.now c.in_ok-wave.wave.items c.in_err-now.field-0.0 c.in_ok-wave.ensures.reads.0 c.requires.files reads err)
