@@ -14,7 +14,8 @@ use Rattle.glk_objdesc.specs.FirstUse.{concat_of}
 use Rattle.glk_objdesc.specs.Canonical.{autolib_path, def_name, relocs_bytes, auxes_bytes, content_of, reloc_bytes, object_bytes, strings_of}
 use Rattle.glk_objdesc.specs.Sizes.{total_of, packages_length, sum_of}
 use Rattle.glk_objdesc.proofs.SizeLemmas.{length_object, length_each, length_reloc, length_relocs, length_auxes, length_contents}
-use Rattle.glk_gen.specs.Packages.{package_count, packages, function_limit, first_function, function_count, functions, package_of, package_path, function_name}
+use Rattle.glk_base.specs.Limits.{function_limit}
+use Rattle.glk_gen.specs.Packages.{package_count, packages, first_function, function_count, functions, package_of, package_path, function_name}
 use Rattle.glk_gen.specs.Uses.{is_used, with_use, with_uses}
 use Rattle.glk_gen.specs.Calls.{callee, callees, calls_each, imports}
 use Rattle.glk_gen.specs.Objects.{object_with, code, function_of, data_of, data_name, entry, autolib_of, package_object, main_object}

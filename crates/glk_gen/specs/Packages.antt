@@ -6,10 +6,6 @@ use Rattle.std.specs.List.{range_with_len}
 abbrev pub package_size : ℕ
 package_size = 64
 
--- the most functions of a world
-abbrev pub function_limit : ℕ
-function_limit = 200000
-
 -- how many packages there are: the least number that has room for n functions
 abbrev pub package_count : ℕ → ℕ
 package_count n = (n + (package_size - 1)) / package_size

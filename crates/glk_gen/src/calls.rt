@@ -2,7 +2,7 @@
 ghost use Rattle.std.specs.Prelude.{◌≡◌, ◌+◌, ◌*◌, ◌/◌, ◌<◌, ◌≤◌, ◌^◌, ℕ, IfOk, length, map, slice_index, slice_range};
 ghost use Rattle.std.specs.List.{range_with_len};
 ghost use Rattle.glk_gen.specs.Draws.{next_state, dropped_bits};
-ghost use Rattle.glk_gen.specs.Packages.{function_limit};
+ghost use Rattle.glk_base.specs.Limits.{function_limit};
 ghost use Rattle.glk_gen.specs.Calls.{calls_each, callee};
 
 use glk_base::OutOfMemory;

@@ -9,4 +9,4 @@ mod names;
 mod objects;
 mod world;
 
-pub use world::{FUNCTION_LIMIT, World, gen_world};
+pub use world::{World, gen_world};

@@ -1,6 +1,7 @@
 // The objects of a world.
 ghost use Rattle.std.specs.Prelude.{◌≡◌, ◌+◌, ◌*◌, ◌<◌, ◌≤◌, ◌^◌, IfOk, length, map};
-ghost use Rattle.glk_gen.specs.Packages.{package_count, function_count, package_path, packages, functions, function_limit};
+ghost use Rattle.glk_gen.specs.Packages.{package_count, function_count, package_path, packages, functions};
+ghost use Rattle.glk_base.specs.Limits.{function_limit};
 ghost use Rattle.glk_gen.specs.Calls.{imports};
 ghost use Rattle.glk_gen.specs.Objects.{object_with, function_of, package_object, autolib_of, main_object};
 

@@ -1,7 +1,8 @@
 // A world: its import configuration and its package files.
 ghost use Rattle.std.specs.Prelude.{◌≡◌, ◌+◌, ◌<◌, ◌≤◌, ◌^◌, ◌∷◌, IfOk, length, map, codes};
 ghost use Rattle.glk_objdesc.specs.Canonical.{object_bytes};
-ghost use Rattle.glk_gen.specs.Packages.{function_limit, package_count};
+ghost use Rattle.glk_base.specs.Limits.{function_limit};
+ghost use Rattle.glk_gen.specs.Packages.{package_count};
 ghost use Rattle.glk_gen.specs.Configs.{importcfg_of};
 ghost use Rattle.glk_gen.specs.Worlds.{archive_of, main_archive, package_archive, archives_of, object_bound, world_of};
 
@@ -12,9 +13,6 @@ use glk_ar::one_member;
 use glk_base::{Fault, OutOfMemory, Seq, StrText, Text};
 use glk_objdesc::{ObjDesc, write_object};
 use std::alloc::Global;
-
-/// The most functions of a world.
-pub const FUNCTION_LIMIT: u32 = 200_000;
 
 /// How many functions a package has, where the functions do not end before.
 pub(crate) const PACKAGE_SIZE: u32 = 64;

@@ -10,7 +10,8 @@ use Rattle.std.proofs.lemmas.Fmt.{decimal_injective}
 use Rattle.std.proofs.Math.Seq.{get_or-append_seam}
 use Rattle.glk_base.specs.Lines.{lines, line_at, trimmed_line}
 use Rattle.glk_arena.specs.Config.{Lists, IsGood, IsGoodLine, IsLast}
-use Rattle.glk_gen.specs.Packages.{package_count, packages, package_path, package_file, function_limit}
+use Rattle.glk_gen.specs.Packages.{package_count, packages, package_path, package_file}
+use Rattle.glk_base.specs.Limits.{function_limit}
 use Rattle.glk_gen.specs.Configs.{config_line, importcfg_of}
 use Rattle.glk_gen_laws.specs.Listed.{config_lines, ListsPackages}
 use Rattle.glk_gen_laws.proofs.LineBytes.{line_of, line_without_newline}

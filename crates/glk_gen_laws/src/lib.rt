@@ -3,7 +3,7 @@
 #![tactic(auto)]
 
 ghost use Rattle.std.specs.Prelude.{◌≤◌};
-ghost use Rattle.glk_gen.specs.Packages.{function_limit};
+ghost use Rattle.glk_base.specs.Limits.{function_limit};
 ghost use Rattle.glk_gen_laws.specs.Listed.{ListsPackages};
 
 /// The import configuration of a world of `n` functions has no bad line, and gives each package but

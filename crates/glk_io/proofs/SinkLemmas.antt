@@ -1,9 +1,10 @@
--- Pieces in a sink, one after the other.
+-- Pieces and texts in a sink, one after the other.
 use Rattle.std.proofs.Common.{◌≡◌, ◌≤◌, ◌<◌, length-append, ℕ, ◌+◌, List, [], ◌∷◌, ◌++◌, get_or, Bor, sym, ap, ◌∙◌, add-one, take, drop, length, ◌-◌, Option, Some, None, Result, Ok, Err, OnErr, refl, append_assoc, arith}
 use Rattle.std.specs.Io.KnownBytes.{Appends}
 use Rattle.std.proofs.Math.Seq.{take-add, take-append-add, take-suc}
 use Rattle.std.proofs.lemmas.List.{take-append-le, take-append-drop, append-nil}
-use Rattle.glk_io.specs.Changes.{SinkState, SinkAppends, SinkFails}
+use Rattle.std.specs.Result.{IsErrAnd}
+use Rattle.glk_io.specs.Changes.{SinkState, SinkAppends, SinkFails, WritesText}
 use Rattle.glk_io.specs.Streams.{AppendsPrefix, joined}
 use Rattle.std.proofs.lemmas.Grind.{common_steps}
 
@@ -86,3 +87,39 @@ module _ (a b c : SinkState) (ps : List (Bor (List ℕ))) (n : ℕ) (d : Bor (Li
     later = rw h.faults at f.later;
     rose = rw h.faults at f.rose;
   }
+
+-- one text after the other
+pub then_appends : (a b c : SinkState) (xs ys : List ℕ) → SinkAppends a b xs → SinkAppends b c ys → SinkAppends a c (xs ++ ys)
+then_appends a b c xs ys h k = record {
+  bytes_are = both_whole a.held b.held c.held xs ys h.bytes_are k.bytes_are;
+  faults = k.faults ∙ h.faults;
+}
+
+-- a text, and a prefix of another
+pub then_fails : (a b c : SinkState) (xs ys : List ℕ) → SinkAppends a b xs → SinkFails b c ys → SinkFails a c (xs ++ ys)
+then_fails a b c xs ys h f = record {
+  prefix = prefix_right a.held b.held c.held xs ys h.bytes_are f.prefix;
+  later = rw h.faults at f.later;
+  rose = rw h.faults at f.rose;
+}
+
+-- a prefix of the first of two texts
+pub fails_first : (a b : SinkState) (xs ys : List ℕ) → SinkFails a b xs → SinkFails a b (xs ++ ys)
+fails_first a b xs ys f = record {
+  prefix = prefix_left a.held b.held xs ys f.prefix;
+  later = f.later;
+  rose = f.rose;
+}
+
+none_appended : (held : Option (List ℕ)) → Appends held held []
+none_appended None = tt
+none_appended (Some xs) = sym (append-nil xs)
+
+-- nothing was written
+pub appends_none : (a : SinkState) → SinkAppends a a []
+appends_none a = record { bytes_are = none_appended a.held; faults = refl }
+
+-- a `?` hands the fault on
+pub fails_anyway : {T E : Type 0} (a b : SinkState) (text : List ℕ) (r : Result T E) (e : E) → IsErrAnd r (λ f. f ≡ e) → SinkFails a b text → WritesText a b text r
+fails_anyway a b text (Ok x) e was h = absurd was
+fails_anyway a b text (Err f) e was h = h

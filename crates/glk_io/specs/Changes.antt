@@ -1,5 +1,5 @@
 -- The files, a source or a sink before and after a call.
-use Rattle.std.specs.Prelude.{◌≡◌, ℕ, ◌≤◌, List, Option}
+use Rattle.std.specs.Prelude.{◌≡◌, ℕ, ◌≤◌, List, Option, Result, Ok, Err}
 use Rattle.std.specs.Io.KnownBytes.{Appends}
 use Rattle.glk_io.specs.Counts.{Rose}
 use Rattle.glk_io.specs.Contents.{Contents, Writes, PartlyWritten}
@@ -58,3 +58,8 @@ pub record SinkFails (old new : SinkState) (bytes : List ℕ) : Type 0 where
   pub prefix : AppendsPrefix old.held new.held bytes
   pub later : old.faults ≤ new.faults
   pub rose : Rose old.faults new.faults
+
+-- a text was written whole, or a prefix of it where a write failed
+abbrev pub WritesText : {T E : Type 0} → SinkState → SinkState → List ℕ → Result T E → Type 0
+WritesText old new text (Ok done) = SinkAppends old new text
+WritesText old new text (Err failed) = SinkFails old new text

@@ -10,7 +10,7 @@ use Rattle.glk_obj.specs.declared.symbols.SymKind.TheVariants.{Text, Rodata, Nop
 use Rattle.glk_elf.specs.Sections.{text, rodata, written_data, bss, noptrbss, tbss}
 use Rattle.glk_elf.specs.Placing.{text_start, of_section}
 use Rattle.glk_layout.specs.declared.input.KeptSymbol.{KeptSymbol}
-use Rattle.glk_layout.specs.declared.input.Contents.{Contents}
+use Rattle.glk_layout.specs.declared.input.PlacedContents.{PlacedContents}
 use Rattle.glk_layout.specs.declared.placing.Layout.{Layout}
 use Rattle.glk_layout.specs.Boxes.{Box, no_box, box_end, end_after}
 use Rattle.glk_layout.specs.Symbols.{is_in, home_of, section_of_kind, box_of, boxes_in, alignment_of, room_of}
@@ -101,7 +101,7 @@ with_above n end s = chosen (is_in n s)
     chosen true = let above = address_above end (box_of s) (alignment_some s) in omega (arith, above)
     chosen false = let e : end ≤ end = omega arith in e
 
-module _ (c : Contents) (n : ℕ) where
+module _ (c : PlacedContents) (n : ℕ) where
   symbol_more : (i : ℕ) → i < length c.symbols.now → end_before c n (i + 1) ≡ with_symbol n (end_before c n i) (symbol_at c i)
   unfolding end_before
   symbol_more i lt = symbols_more n (section_start c n) c.symbols.now i no_symbol lt
@@ -163,7 +163,7 @@ module _ (c : Contents) (n : ℕ) where
       let P : Bool → Type 0 = λ b. end_before c n (i + 1) ≡ (if b then box_end (end_before c n i) (box_of (symbol_at c i)) else end_before c n i) in
       sym (subst P here (symbol_more i lt))
 
-symbols_end : (c : Contents) (k : ℕ) → IsPlaceable c → end_before c (suc k) (length c.symbols.now) ≤ section_end c (suc k)
+symbols_end : (c : PlacedContents) (k : ℕ) → IsPlaceable c → end_before c (suc k) (length c.symbols.now) ≤ section_end c (suc k)
 symbols_end c k p =
     let past = same_past c (suc k) (length c.symbols.now) (let e : length c.symbols.now ≤ length c.symbols.now = omega arith in e) in
     let whole = end_append (section_start c (suc k)) (boxes_in (suc k) c.symbols.now) (made_boxes c (suc k)) in
@@ -199,20 +199,20 @@ sections_in_order c n p low high =
     let next : suc n ≡ n + 1 = omega arith in
     (subst P e (end_from_start c (n - 1) p), subst Q next (start_least c n).above)
 
-pub end_rises : (c : Contents) (k : ℕ) → IsPlaceable c → section_end c k ≤ section_end c (suc k)
+pub end_rises : (c : PlacedContents) (k : ℕ) → IsPlaceable c → section_end c k ≤ section_end c (suc k)
 end_rises c k p =
     let a = (start_least c k).above in
     let b = end_from_start c k p in
     omega (arith, a, b)
 
-pub end_low : (c : Contents) (k : ℕ) → IsPlaceable c → text_start ≤ section_end c k
+pub end_low : (c : PlacedContents) (k : ℕ) → IsPlaceable c → text_start ≤ section_end c k
 end_low c zero p = let e = first_end c in omega (arith, e)
 end_low c (suc k) p =
     let a = end_low c k p in
     let b = end_rises c k p in
     omega (arith, a, b)
 
-pub start_low : (c : Contents) (n : ℕ) → IsPlaceable c → text ≤ n → text_start ≤ section_start c n
+pub start_low : (c : PlacedContents) (n : ℕ) → IsPlaceable c → text ≤ n → text_start ≤ section_start c n
 start_low c n p low =
     let P : ℕ → Type 0 = λ m. text_start ≤ section_start c m in
     let e : suc (n - 1) ≡ n = omega arith in
@@ -221,7 +221,7 @@ start_low c n p low =
     subst P e (omega (arith, a, b))
 
 -- where a section ends, by its range
-pub range_end : (c : Contents) (addrs sizes : List ℕ) (n : ℕ) → IsPlaceable c → text ≤ n → n ≤ noptrbss
+pub range_end : (c : PlacedContents) (addrs sizes : List ℕ) (n : ℕ) → IsPlaceable c → text ≤ n → n ≤ noptrbss
     → of_section addrs n ≡ section_start c n → of_section sizes n ≡ section_end c n - section_start c n
     → of_section addrs n + of_section sizes n ≡ section_end c n
 range_end c addrs sizes n p low high addr size =
@@ -261,19 +261,19 @@ home_address address (Some n) known low =
     let not_0 : (address n == 0) ≡ false = grind (arith, nat_tests) in
     rw (inside, not_0) refl
 
-pub symbol_address_at : (c : Contents) (i : ℕ) (symbols : List ℕ) → IsPlaceable c → get_or symbols i 0 ≡ address_by c noptrbss i
+pub symbol_address_at : (c : PlacedContents) (i : ℕ) (symbols : List ℕ) → IsPlaceable c → get_or symbols i 0 ≡ address_by c noptrbss i
     → address_at symbols i ≡ symbol_address c i
 symbol_address_at c i symbols p e =
     ap (λ at. if at == 0 then None else Some at) e
     ∙ home_address (λ n. address_within c n i) (home_of (symbol_at c i)) (home_known (symbol_at c i))
     (λ n low. let a = start_low c n p low in let b = symbol_from c n i in omega (arith, a, b))
 
-pub made_address_at : (c : Contents) (i : ℕ) (made : List ℕ) → get_or made i 0 ≡ (if nat_le rodata noptrbss then made_address c i else 0)
+pub made_address_at : (c : PlacedContents) (i : ℕ) (made : List ℕ) → get_or made i 0 ≡ (if nat_le rodata noptrbss then made_address c i else 0)
     → get_or made i 0 ≡ made_address c i
 made_address_at c i made e = e
 
 -- what `place` answers
-pub layout_is : (c : Contents) (l : Layout) (symbols made : List ℕ) → IsPlaceable c → AreRanges c l.addrs l.sizes → ArePlacedTo c noptrbss symbols made
+pub layout_is : (c : PlacedContents) (l : Layout) (symbols made : List ℕ) → IsPlaceable c → AreRanges c l.addrs l.sizes → ArePlacedTo c noptrbss symbols made
     → l.symbols.items ≡ symbols → l.made.items ≡ made → IsLayout c l
 layout_is c l symbols made p ranges placed symbols_are made_are = record {
   addrs = ranges.addrs_at;
@@ -290,7 +290,7 @@ layout_is c l symbols made p ranges placed symbols_are made_are = record {
 }
 
 -- before the first section nothing is placed
-pub placed_none : (c : Contents) (symbols made : List ℕ) → symbols ≡ replicate (length c.symbols.now) 0 → made ≡ replicate (length c.made.now) 0
+pub placed_none : (c : PlacedContents) (symbols made : List ℕ) → symbols ≡ replicate (length c.symbols.now) 0 → made ≡ replicate (length c.made.now) 0
     → ArePlacedTo c 0 symbols made
 placed_none c symbols made symbols_are made_are = record {
   symbol_count = ap length symbols_are ∙ length-replicate (length c.symbols.now) 0;
@@ -310,7 +310,7 @@ placed_none c symbols made symbols_are made_are = record {
         rw after refl
 
 -- where a section ends, by the index of its number
-pub range_at : (c : Contents) (addrs sizes : List ℕ) (index n : ℕ) → IsPlaceable c → AreRanges c addrs sizes → index + 1 ≡ n → text ≤ n → n ≤ noptrbss
+pub range_at : (c : PlacedContents) (addrs sizes : List ℕ) (index n : ℕ) → IsPlaceable c → AreRanges c addrs sizes → index + 1 ≡ n → text ≤ n → n ≤ noptrbss
     → get_or addrs index 0 + get_or sizes index 0 ≡ section_end c n
 range_at c addrs sizes index n p ranges e low high =
     let other : (n == tbss) ≡ false = grind (arith, nat_tests) in
@@ -323,7 +323,7 @@ range_at c addrs sizes index n p ranges e low high =
     subst P at (range_end c addrs sizes n p low high addr size)
 
 -- .data ends before .noptrbss does
-pub data_before : (c : Contents) → IsPlaceable c → section_end c written_data ≤ section_end c noptrbss
+pub data_before : (c : PlacedContents) → IsPlaceable c → section_end c written_data ≤ section_end c noptrbss
 data_before c p =
     let a : section_end c 8 ≤ section_end c 9 = end_rises c 8 p in
     let b : section_end c 9 ≤ section_end c 10 = end_rises c 9 p in

@@ -11,7 +11,7 @@ use Rattle.glk_elf.specs.Sections.{text, rodata, bss, noptrbss, tbss}
 use Rattle.glk_elf.specs.Image.{multiple_from, page_size}
 use Rattle.glk_elf.specs.Placing.{text_start, start_multiple, section_align}
 use Rattle.glk_layout.specs.declared.input.KeptSymbol.{KeptSymbol}
-use Rattle.glk_layout.specs.declared.input.Contents.{Contents}
+use Rattle.glk_layout.specs.declared.input.PlacedContents.{PlacedContents}
 use Rattle.glk_layout.specs.Boxes.{box_address, end_after, address_in}
 use Rattle.glk_layout.specs.Symbols.{is_in, home_of, box_of, boxes_in, alignment_of, data_align, text_align}
 use Rattle.glk_layout.specs.Layout.{made_box, made_boxes, whole_box, table_size, section_boxes, section_start, section_end, symbol_at, address_within, end_before, made_address, IsPlaceable}
@@ -55,7 +55,7 @@ symbols_aligned n symbols =
     All-map (λ b. 0 < b.align) box_of (filter (is_in n) symbols)
     (All-filter (is_in n) (λ s. 0 < alignment_of s) symbols (λ k d lt. alignment_some (get_or symbols k d)))
 
-pub made_aligned : (c : Contents) (n : ℕ) → IsPlaceable c → All (λ b. 0 < b.align) (made_boxes c n)
+pub made_aligned : (c : PlacedContents) (n : ℕ) → IsPlaceable c → All (λ b. 0 < b.align) (made_boxes c n)
 made_aligned c n p = made_cases (n == rodata)
   where
     whole_aligned : (size : ℕ) → All (λ b. 0 < b.align) (whole_box size ∷ [])
@@ -66,33 +66,33 @@ made_aligned c n p = made_cases (n == rodata)
     made_cases true = All-map (λ b. 0 < b.align) made_box c.made.now p.aligned
     made_cases false = whole_aligned (table_size c.tables n)
 
-pub section_aligned : (c : Contents) (n : ℕ) → IsPlaceable c → All (λ b. 0 < b.align) (section_boxes c n)
+pub section_aligned : (c : PlacedContents) (n : ℕ) → IsPlaceable c → All (λ b. 0 < b.align) (section_boxes c n)
 section_aligned c n p = All-append (λ b. 0 < b.align) (boxes_in n c.symbols.now) (made_boxes c n) (symbols_aligned n c.symbols.now) (made_aligned c n p)
 
 -- Where sections start and end.
 
-pub start_next : (c : Contents) (k : ℕ) → section_start c (suc k) ≡ multiple_from (start_multiple (suc k)) (section_end c k)
+pub start_next : (c : PlacedContents) (k : ℕ) → section_start c (suc k) ≡ multiple_from (start_multiple (suc k)) (section_end c k)
 unfolding section_start
 start_next c k = ap (λ m. multiple_from (start_multiple (suc k)) (section_end c m)) (let e : suc k - 1 ≡ k = omega arith in e)
 
-pub end_next : (c : Contents) (k : ℕ) → section_end c (suc k) ≡ end_after (section_start c (suc k)) (section_boxes c (suc k))
+pub end_next : (c : PlacedContents) (k : ℕ) → section_end c (suc k) ≡ end_after (section_start c (suc k)) (section_boxes c (suc k))
 unfolding section_end
 end_next c k = ap (λ a. end_after a (section_boxes c (suc k))) (sym (start_next c k))
 
-pub first_end : (c : Contents) → section_end c 0 ≡ text_start
+pub first_end : (c : PlacedContents) → section_end c 0 ≡ text_start
 unfolding section_end
 first_end c = refl
 
-pub text_first : (c : Contents) → section_start c text ≡ text_start
+pub text_first : (c : PlacedContents) → section_start c text ≡ text_start
 unfolding section_start section_end
 text_first c = refl
 
-pub end_from_start : (c : Contents) (k : ℕ) → IsPlaceable c → section_start c (suc k) ≤ section_end c (suc k)
+pub end_from_start : (c : PlacedContents) (k : ℕ) → IsPlaceable c → section_start c (suc k) ≤ section_end c (suc k)
 end_from_start c k p =
     let P : ℕ → Type 0 = λ e. section_start c (suc k) ≤ e in
     subst P (sym (end_next c k)) (end_above (section_start c (suc k)) (section_boxes c (suc k)) (section_aligned c (suc k) p))
 
-pub start_least : (c : Contents) (k : ℕ) → IsLeastMultiple (start_multiple (suc k)) (section_end c k) (section_start c (suc k))
+pub start_least : (c : PlacedContents) (k : ℕ) → IsLeastMultiple (start_multiple (suc k)) (section_end c k) (section_start c (suc k))
 start_least c k =
     let P : ℕ → Type 0 = λ a. IsLeastMultiple (start_multiple (suc k)) (section_end c k) a in
     subst P (sym (start_next c k)) (from_is_least (start_multiple (suc k)) (section_end c k) (start_some (suc k)))
@@ -156,7 +156,7 @@ made_step k a b same =
           ]
     ]
 
-module _ (c : Contents) (k start : ℕ) (start_is : start ≡ section_start c (suc k)) where
+module _ (c : PlacedContents) (k start : ℕ) (start_is : start ≡ section_start c (suc k)) where
   symbols_next : (old new : List ℕ) → ((i : ℕ) → i < length c.symbols.now → get_or old i 0 ≡ address_by c k i)
       → PlacesIn (suc k) start c.symbols.now old new → (i : ℕ) → i < length c.symbols.now → get_or new i 0 ≡ address_by c (suc k) i
   unfolding is_in end_before
@@ -177,7 +177,7 @@ module _ (c : Contents) (k start : ℕ) (start_is : start ≡ section_start c (s
       ∙ ap (λ n. address_in (end_after (section_start c n) (boxes_in n c.symbols.now)) (map made_box c.made.now) i) e))
 
 -- the sections up to number k are placed
-pub record SectionsTo (c : Contents) (k end : ℕ) (addrs sizes symbols made : List ℕ) : Type 0 where
+pub record SectionsTo (c : PlacedContents) (k end : ℕ) (addrs sizes symbols made : List ℕ) : Type 0 where
   pub ends : end ≡ section_end c k
   pub small : end ≤ text_start + k * (2 ^ 57 + 2 ^ 58 + 2 ^ 13)
   pub addrs_count : length addrs ≡ 11
@@ -199,7 +199,7 @@ list_step xs k x value long x_is before n low high =
           ap (λ j. get_or (set xs k x) j 0) at ∙ (get_or-set_same xs k x 0 long ∙ (x_is ∙ ap value e))
     ]
 
-pub sections_step : (c : Contents) (k end start after : ℕ) (addrs sizes symbols made symbols' made' : List ℕ) → k < 10
+pub sections_step : (c : PlacedContents) (k end start after : ℕ) (addrs sizes symbols made symbols' made' : List ℕ) → k < 10
     → SectionsTo c k end addrs sizes symbols made
     → IsLeastMultiple (start_multiple (suc k)) end start
     → start < end + 4096
@@ -234,7 +234,7 @@ sections_step c k end start after addrs sizes symbols made symbols' made' few be
     }
 
 -- the same by a number that is one more
-pub sections_next : (c : Contents) (k next end start after : ℕ) (addrs sizes symbols made symbols' made' : List ℕ) → next ≡ suc k → k < 10
+pub sections_next : (c : PlacedContents) (k next end start after : ℕ) (addrs sizes symbols made symbols' made' : List ℕ) → next ≡ suc k → k < 10
     → SectionsTo c k end addrs sizes symbols made
     → IsLeastMultiple (start_multiple next) end start
     → start < end + 4096
@@ -256,7 +256,7 @@ sections_next c k next end start after addrs sizes symbols made symbols' made' n
     (subst After next_is after_is) bound symbols_long (subst Places next_is places) made_long (subst Made next_is made_places))
 
 -- all sections, with the storage of threads
-module _ (c : Contents) (p : IsPlaceable c) (end k from to : ℕ) (addrs sizes symbols made : List ℕ) (k_is : k ≡ noptrbss) (all : SectionsTo c k end addrs sizes symbols made) (from_is : from + 1 ≡ bss) (to_is : to + 1 ≡ tbss) where
+module _ (c : PlacedContents) (p : IsPlaceable c) (end k from to : ℕ) (addrs sizes symbols made : List ℕ) (k_is : k ≡ noptrbss) (all : SectionsTo c k end addrs sizes symbols made) (from_is : from + 1 ≡ bss) (to_is : to + 1 ≡ tbss) where
   starts : (n : ℕ) → text ≤ n → n ≤ noptrbss → get_or addrs (n - 1) 0 ≡ section_start c n
   starts n low high = all.addrs_at n low (omega arith)
 

@@ -2,7 +2,7 @@
 use Rattle.std.specs.Prelude.{◌≡◌, ℕ, ◌+◌, ◌%◌, ◌<◌, ◌≤◌, true, List, length, get_or, All}
 use Rattle.glk_elf.specs.Sections.{text, noptrbss}
 use Rattle.glk_elf.specs.Placing.{text_start}
-use Rattle.glk_layout.specs.declared.input.Contents.{Contents}
+use Rattle.glk_layout.specs.declared.input.PlacedContents.{PlacedContents}
 use Rattle.glk_layout.specs.Boxes.{Box, no_box, end_after, address_in, end_in}
 use Rattle.glk_layout.specs.Symbols.{is_in, alignment_of, room_of, boxes_in}
 use Rattle.glk_layout.specs.Layout.{section_start, section_end, symbol_at, address_within, IsPlaceable}
@@ -19,7 +19,7 @@ abbrev pub BoxesAreInOrder : Type 0
 BoxesAreInOrder = (bound : ℕ) (boxes : List Box) → All (λ b. 0 < b.align) boxes → AreInOrder bound boxes
 
 -- the symbols of a section: each on its alignment, within the section, and after all before it
-pub record SymbolsInOrder (c : Contents) (n : ℕ) : Type 0 where
+pub record SymbolsInOrder (c : PlacedContents) (n : ℕ) : Type 0 where
   pub aligned : (i : ℕ) → i < length c.symbols.now → is_in n (symbol_at c i) ≡ true
       → address_within c n i % alignment_of (symbol_at c i) ≡ 0
   pub from : (i : ℕ) → i < length c.symbols.now → is_in n (symbol_at c i) ≡ true
@@ -30,14 +30,14 @@ pub record SymbolsInOrder (c : Contents) (n : ℕ) : Type 0 where
       → address_within c n i + room_of (symbol_at c i) ≤ section_end c n
 
 abbrev pub AreSymbolsInOrder : Type 0
-AreSymbolsInOrder = (c : Contents) (n : ℕ) → IsPlaceable c → text ≤ n → n ≤ noptrbss → SymbolsInOrder c n
+AreSymbolsInOrder = (c : PlacedContents) (n : ℕ) → IsPlaceable c → text ≤ n → n ≤ noptrbss → SymbolsInOrder c n
 
 -- sections are in order, and each takes no less than its boxes
 abbrev pub AreSectionsInOrder : Type 0
 AreSectionsInOrder =
-    (c : Contents) (n : ℕ) → IsPlaceable c → text ≤ n → n ≤ noptrbss
+    (c : PlacedContents) (n : ℕ) → IsPlaceable c → text ≤ n → n ≤ noptrbss
     → (section_start c n ≤ section_end c n) × (section_end c n ≤ section_start c (n + 1))
 
 -- .text ends where its symbols do
 abbrev pub TextEnds : Type 0
-TextEnds = (c : Contents) → section_end c text ≡ end_after text_start (boxes_in text c.symbols.now)
+TextEnds = (c : PlacedContents) → section_end c text ≡ end_after text_start (boxes_in text c.symbols.now)

@@ -3,7 +3,7 @@ use Rattle.std.specs.Prelude.{◌≡◌, ℕ, ◌<◌, ◌==◌, nat_le, if◌th
 use Rattle.std.specs.Option.{option_map_or}
 use Rattle.glk_elf.specs.Sections.{rodata}
 use Rattle.glk_layout.specs.declared.input.KeptSymbol.{KeptSymbol}
-use Rattle.glk_layout.specs.declared.input.Contents.{Contents}
+use Rattle.glk_layout.specs.declared.input.PlacedContents.{PlacedContents}
 use Rattle.glk_layout.specs.Boxes.{box_address, end_after, address_in}
 use Rattle.glk_layout.specs.Symbols.{is_in, box_of, boxes_in, home_of}
 use Rattle.glk_layout.specs.Layout.{no_symbol, made_box, symbol_at, address_within, made_address}
@@ -18,7 +18,7 @@ PlacesIn n start symbols old new =
     else slice_index old i)
 
 -- in .rodata the made contents have their addresses after its symbols; in other sections nothing changes
-abbrev pub PlacesMade : Contents → ℕ → ℕ → List ℕ → List ℕ → Type 0
+abbrev pub PlacesMade : PlacedContents → ℕ → ℕ → List ℕ → List ℕ → Type 0
 PlacesMade c n start old new =
     (i : ℕ) → i < length c.made.now
     → slice_index new i
@@ -27,11 +27,11 @@ PlacesMade c n start old new =
     else slice_index old i)
 
 -- the address of symbol i, once the sections up to number k are placed; else 0
-abbrev pub address_by : Contents → ℕ → ℕ → ℕ
+abbrev pub address_by : PlacedContents → ℕ → ℕ → ℕ
 address_by c k i = option_map_or (λ n. if nat_le n k then address_within c n i else 0) (home_of (symbol_at c i)) 0
 
 -- the symbols and made contents of the sections up to number k have their addresses, and the others have 0
-pub record ArePlacedTo (c : Contents) (k : ℕ) (symbols made : List ℕ) : Type 0 where
+pub record ArePlacedTo (c : PlacedContents) (k : ℕ) (symbols made : List ℕ) : Type 0 where
   pub symbol_count : length symbols ≡ length c.symbols.now
   pub symbols_at : (i : ℕ) → i < length c.symbols.now → slice_index symbols i ≡ address_by c k i
   pub made_count : length made ≡ length c.made.now

@@ -63,5 +63,5 @@ unfoldable pub name_room : KeptSymbol → ℕ
 name_room s = if s.name_len == 0 then 0 else s.name_len + 1
 
 -- the names of all symbols, with the zero byte that ends each
-unfoldable pub names_length : List KeptSymbol → ℕ
-names_length symbols = sum_by name_room symbols
+unfoldable pub names_room : List KeptSymbol → ℕ
+names_room symbols = sum_by name_room symbols

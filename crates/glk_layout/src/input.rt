@@ -37,7 +37,7 @@ pub struct Tables {
 /// All that is placed: the kept symbols in load order, the made contents of `.rodata` in their order,
 /// and the sizes of the tables.
 #[derive(Clone, Copy, Debug, PartialEq, Eq)]
-pub struct Contents<'a> {
+pub struct PlacedContents<'a> {
     pub symbols: &'a [KeptSymbol],
     pub made: &'a [MadeContent],
     pub tables: Tables,

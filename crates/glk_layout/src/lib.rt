@@ -14,7 +14,7 @@ mod symbols;
 #[cfg(test)]
 mod tests;
 
-pub use input::{Contents, KeptSymbol, MadeContent, Tables};
+pub use input::{KeptSymbol, MadeContent, PlacedContents, Tables};
 pub use laws::{boxes_in_order, sections_in_order, symbols_in_order, text_ends};
 pub use limits::{SizeLimit, TooLarge};
 pub use placing::{Layout, place, section_of_symbol};

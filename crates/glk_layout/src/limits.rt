@@ -4,9 +4,10 @@ ghost use Rattle.glk_elf.specs.Sections.{written_data, noptrbss};
 ghost use Rattle.glk_elf.specs.Placing.{text_start};
 ghost use Rattle.glk_layout.specs.Layout.{section_end};
 ghost use Rattle.glk_layout.specs.Limits.{excess as excess_of};
-ghost use Rattle.glk_layout.specs.Symbols.{names_length};
+ghost use Rattle.glk_layout.specs.Symbols.{names_room};
 
-use crate::input::Contents;
+use crate::input::PlacedContents;
+use glk_base::FILE_LIMIT;
 use glk_elf::IMAGE_BASE;
 
 /// What has a limit.
@@ -27,8 +28,6 @@ pub struct TooLarge {
     pub number: u64,
 }
 
-const FILE_LIMIT: u64 = 1 << 30;
-
 const ADDRESS_LIMIT: u64 = 1 << 40;
 
 const NAMES_LIMIT: u64 = 1 << 30;
@@ -36,7 +35,7 @@ const NAMES_LIMIT: u64 = 1 << 30;
 // The first limit that is passed by what ends there in memory and has names of this length.
 #[tactic(auto, unfolding(crate::specs::Limits::excess))]
 pub(crate) fn excess(
-    contents: &Contents<'_>,
+    contents: &PlacedContents<'_>,
     data_end: u64,
     last_end: u64,
     names: u64,
@@ -44,7 +43,7 @@ pub(crate) fn excess(
     requires some { text_start ≤ data_end }
     requires data { data_end ≡ section_end contents.now written_data }
     requires last { last_end ≡ section_end contents.now noptrbss }
-    requires names { names ≡ names_length contents.now.symbols.now }
+    requires names { names ≡ names_room contents.now.symbols.now }
     ensures { result ≡ excess_of contents.now }
 {
     let _placed = contents;

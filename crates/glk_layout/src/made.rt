@@ -4,7 +4,7 @@ ghost use Rattle.std.specs.List.{sum_by};
 ghost use Rattle.glk_layout.specs.Boxes.{end_after, address_in};
 ghost use Rattle.glk_layout.specs.Layout.{made_box, table_size as table_size_of, table_limit, IsPlaceable};
 
-use crate::input::{Contents, MadeContent};
+use crate::input::{MadeContent, PlacedContents};
 use glk_base::least_multiple;
 use glk_elf::Section;
 
@@ -29,7 +29,7 @@ pub(crate) fn place_made(made: &[MadeContent], start: u64, places: &mut [u64]) -
 }
 
 /// The size of a section that is one table; 0 for the others.
-pub(crate) fn table_size(contents: &Contents<'_>, number: u8) -> u64
+pub(crate) fn table_size(contents: &PlacedContents<'_>, number: u8) -> u64
     requires { IsPlaceable contents.now }
     ensures value { result ≡ table_size_of contents.now.tables number }
     ensures small { result ≤ table_limit }

@@ -9,10 +9,10 @@ ghost use Rattle.glk_layout.specs.Limits.{excess as excess_of, IsFaultOf};
 ghost use Rattle.glk_layout.specs.Steps.{PlacesIn, PlacesMade, ArePlacedTo};
 ghost use Rattle.glk_layout.specs.Sections.{AreRanges};
 
-use crate::input::{Contents, KeptSymbol};
+use crate::input::{KeptSymbol, PlacedContents};
 use crate::limits::{TooLarge, excess};
 use crate::made::{place_made, table_size};
-use crate::symbols::{home_of, names_length, place_symbols};
+use crate::symbols::{home_of, names_room, place_symbols};
 use glk_base::{Fault, least_multiple};
 use glk_elf::{PLACED_SECTIONS, Section, TEXT_START, start_multiple};
 use std::alloc::Global;
@@ -60,7 +60,7 @@ struct Ranges {
 
 // Places what is in section `number`, which starts there. Answers where it ends.
 fn place_section(
-    contents: &Contents<'_>,
+    contents: &PlacedContents<'_>,
     number: u8,
     start: u64,
     symbols: &mut [u64],
@@ -84,7 +84,7 @@ fn place_section(
 }
 
 // Places all sections, one after the other.
-fn place_sections(contents: &Contents<'_>, symbols: &mut [u64], made: &mut [u64]) -> Ranges
+fn place_sections(contents: &PlacedContents<'_>, symbols: &mut [u64], made: &mut [u64]) -> Ranges
     requires placeable { IsPlaceable contents.now }
     requires before { ArePlacedTo contents.now 0 symbols.old made.old }
     ensures after { ArePlacedTo contents.now noptrbss symbols.new made.new }
@@ -111,7 +111,7 @@ fn place_sections(contents: &Contents<'_>, symbols: &mut [u64], made: &mut [u64]
 ///
 /// # Errors
 /// The first limit that is passed: of the file, of the addresses, of the names. Out of memory.
-pub fn place(alloc: Global, contents: &Contents<'_>) -> Result<Layout, Fault<TooLarge>>
+pub fn place(alloc: Global, contents: &PlacedContents<'_>) -> Result<Layout, Fault<TooLarge>>
     requires { IsPlaceable contents.now }
     ensures layout { IfOk result (IsLayout contents.now) }
     ensures small { OnOk result (excess_of contents.now ≡ None) }
@@ -126,7 +126,7 @@ pub fn place(alloc: Global, contents: &Contents<'_>) -> Result<Layout, Fault<Too
         contents,
         addrs[data] + sizes[data],
         addrs[last] + sizes[last],
-        names_length(contents.symbols),
+        names_room(contents.symbols),
     ) {
         Some(refusal) => Err(Fault::Bad(refusal)),
         None => Ok(Layout {

@@ -3,7 +3,7 @@ ghost use Rattle.std.specs.Prelude.{◌≡◌, ◌≤◌, ◌<◌, ◌+◌, ◌*
 ghost use Rattle.glk_elf.specs.Sections.{text};
 ghost use Rattle.glk_elf.specs.Placing.{text_start};
 ghost use Rattle.glk_layout.specs.Boxes.{box_address, box_end, end_after};
-ghost use Rattle.glk_layout.specs.Symbols.{section_of_kind, home_of as home_of_symbol, is_in, data_align as data_align_of, alignment_of, room_of, box_of, boxes_in, name_room as name_room_of, names_length as names_length_of};
+ghost use Rattle.glk_layout.specs.Symbols.{section_of_kind, home_of as home_of_symbol, is_in, data_align as data_align_of, alignment_of, room_of, box_of, boxes_in, name_room as name_room_of, names_room as names_room_of};
 ghost use Rattle.glk_layout.specs.Layout.{symbol_limit};
 ghost use Rattle.glk_layout.specs.Steps.{PlacesIn};
 
@@ -169,10 +169,10 @@ fn name_room(symbol: &KeptSymbol) -> u64
 }
 
 /// The length of the names of all symbols, with the zero byte that ends each.
-#[tactic(auto, unfolding(crate::specs::Symbols::names_length))]
-pub(crate) fn names_length(symbols: &[KeptSymbol]) -> u64
+#[tactic(auto, unfolding(crate::specs::Symbols::names_room))]
+pub(crate) fn names_room(symbols: &[KeptSymbol]) -> u64
     requires { length symbols.now ≤ symbol_limit }
-    ensures { result ≡ names_length_of symbols.now }
+    ensures { result ≡ names_room_of symbols.now }
 {
     let mut length = 0;
     for symbol in symbols {

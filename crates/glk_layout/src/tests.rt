@@ -1,5 +1,5 @@
 // What takes memory, once with memory: places that follow from the rules by hand.
-use crate::{Contents, KeptSymbol, Layout, MadeContent, SizeLimit, Tables, TooLarge, place};
+use crate::{KeptSymbol, Layout, MadeContent, PlacedContents, SizeLimit, Tables, TooLarge, place};
 use glk_base::Fault;
 use glk_obj::SymKind;
 use std::alloc::Global;
@@ -31,7 +31,7 @@ fn addresses(alloc: Global, symbols: &[KeptSymbol]) -> Option<Result<Layout, Too
         MadeContent { align: 8, size: 16 },
         MadeContent { align: 4, size: 3 },
     ];
-    let contents = Contents {
+    let contents = PlacedContents {
         symbols,
         made: &made,
         tables: NO_TABLES,

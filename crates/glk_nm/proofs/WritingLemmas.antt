@@ -1,46 +1,14 @@
 -- Texts on their way to a sink, one after the other.
 use Rattle.std.proofs.Common.{◌≡◌, ◌++◌, ℕ, List, [], Option, Some, None, Result, Ok, Err, refl, sym, ap, subst, ◌∙◌, append_assoc}
 use Rattle.std.specs.Result.{IsErrAnd}
-use Rattle.std.specs.Io.KnownBytes.{Appends}
 use Rattle.std.proofs.lemmas.List.{append-nil}
-use Rattle.glk_io.specs.Changes.{SinkState, SinkAppends, SinkFails}
+use Rattle.glk_io.specs.Changes.{SinkState, SinkAppends, SinkFails, WritesText}
 use Rattle.std.specs.Prelude.{◌<◌, ◌+◌, length, OnOk, OnErr}
 use Rattle.std.specs.Borrow.{Bor}
 use Rattle.std.proofs.Common.{get_or, take, drop}
 use Rattle.glk_io.specs.Streams.{joined}
-use Rattle.glk_io.proofs.SinkLemmas.{both_whole, prefix_left, prefix_right, joined_more, joined_split}
-use Rattle.glk_nm.specs.Writing.{IsPartlyWritten, WritesAfter, WritesText}
-
--- one text after the other
-pub then_appends : (a b c : SinkState) (xs ys : List ℕ) → SinkAppends a b xs → SinkAppends b c ys → SinkAppends a c (xs ++ ys)
-then_appends a b c xs ys h k = record {
-  bytes_are = both_whole a.held b.held c.held xs ys h.bytes_are k.bytes_are;
-  faults = k.faults ∙ h.faults;
-}
-
--- a text, and a prefix of another
-pub then_fails : (a b c : SinkState) (xs ys : List ℕ) → SinkAppends a b xs → SinkFails b c ys → SinkFails a c (xs ++ ys)
-then_fails a b c xs ys h f = record {
-  prefix = prefix_right a.held b.held c.held xs ys h.bytes_are f.prefix;
-  later = rw h.faults at f.later;
-  rose = rw h.faults at f.rose;
-}
-
--- a prefix of the first of two texts
-pub fails_first : (a b : SinkState) (xs ys : List ℕ) → SinkFails a b xs → SinkFails a b (xs ++ ys)
-fails_first a b xs ys f = record {
-  prefix = prefix_left a.held b.held xs ys f.prefix;
-  later = f.later;
-  rose = f.rose;
-}
-
-none_appended : (held : Option (List ℕ)) → Appends held held []
-none_appended None = tt
-none_appended (Some xs) = sym (append-nil xs)
-
--- nothing was written
-pub appends_none : (a : SinkState) → SinkAppends a a []
-appends_none a = record { bytes_are = none_appended a.held; faults = refl }
+use Rattle.glk_io.proofs.SinkLemmas.{then_appends, then_fails, fails_first, appends_none, fails_anyway, joined_more, joined_split}
+use Rattle.glk_nm.specs.Writing.{IsPartlyWritten, WritesAfter}
 
 -- all of the text is pending
 pub all_pending : (a : SinkState) (text : List ℕ) → IsPartlyWritten a a text text
@@ -91,13 +59,9 @@ fails_early a b before xs ys f =
     subst (λ (t : List ℕ). SinkFails a b t) (append_assoc before xs ys) (fails_first a b (before ++ xs) ys f)
 
 -- a `?` hands the fault on
-pub fails_anyway : {T E : Type 0} (a b : SinkState) (before after text : List ℕ) (r : Result T E) (e : E) → IsErrAnd r (λ f. f ≡ e) → SinkFails a b (before ++ text) → WritesAfter a b before after text r
-fails_anyway a b before after text (Ok x) e was h = absurd was
-fails_anyway a b before after text (Err f) e was h = h
-
-pub text_fails : {T E : Type 0} (a b : SinkState) (text : List ℕ) (r : Result T E) (e : E) → IsErrAnd r (λ f. f ≡ e) → SinkFails a b text → WritesText a b text r
-text_fails a b text (Ok x) e was h = absurd was
-text_fails a b text (Err f) e was h = h
+pub fails_after : {T E : Type 0} (a b : SinkState) (before after text : List ℕ) (r : Result T E) (e : E) → IsErrAnd r (λ f. f ≡ e) → SinkFails a b (before ++ text) → WritesAfter a b before after text r
+fails_after a b before after text (Ok x) e was h = absurd was
+fails_after a b before after text (Err f) e was h = h
 
 -- three texts, one after the other
 module _ (a : SinkState) (before xs ys zs : List ℕ) where
@@ -146,4 +110,4 @@ flushed a b c before pending text (Err failed) none h whole prefix =
 
 pub unflushed : {T E : Type 0} (a b : SinkState) (before text : List ℕ) (r : Result T E) (e : E) → IsErrAnd r (λ f. f ≡ e) → before ≡ []
     → SinkFails a b (before ++ text) → WritesText a b text r
-unflushed a b before text r e was none h = text_fails a b text r e was (subst (λ (t : List ℕ). SinkFails a b (t ++ text)) none h)
+unflushed a b before text r e was none h = fails_anyway a b text r e was (subst (λ (t : List ℕ). SinkFails a b (t ++ text)) none h)

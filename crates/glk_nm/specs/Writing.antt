@@ -13,8 +13,3 @@ pub record IsPartlyWritten (old new : SinkState) (text pending : List ℕ) : Typ
 abbrev pub WritesAfter : {T E : Type 0} → SinkState → SinkState → List ℕ → List ℕ → List ℕ → Result T E → Type 0
 WritesAfter old new before after text (Ok done) = IsPartlyWritten old new (before ++ text) after
 WritesAfter old new before after text (Err failed) = SinkFails old new (before ++ text)
-
--- the same without pending bytes
-abbrev pub WritesText : {T E : Type 0} → SinkState → SinkState → List ℕ → Result T E → Type 0
-WritesText old new text (Ok done) = SinkAppends old new text
-WritesText old new text (Err failed) = SinkFails old new text

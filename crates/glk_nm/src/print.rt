@@ -1,9 +1,10 @@
 // The text of an image's symbols, written to a sink.
 ghost use Rattle.std.specs.Prelude.{◌≡◌, [], ◌∷◌, filter, map};
+ghost use Rattle.glk_io.specs.Changes.{WritesText};
 ghost use Rattle.glk_elf.specs.ReaderViews.{symbol_record};
 ghost use Rattle.glk_nm.specs.Answers.{WritesSymbols, with_fault};
 ghost use Rattle.glk_nm.specs.Listing.{is_listed as is_listed_one, listed_symbols, lines_of};
-ghost use Rattle.glk_nm.specs.Writing.{WritesAfter, WritesText};
+ghost use Rattle.glk_nm.specs.Writing.{WritesAfter};
 
 use crate::line::write_line;
 use crate::listing::{is_listed, sorted_symbols};

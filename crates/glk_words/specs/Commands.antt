@@ -5,7 +5,8 @@ use Rattle.glk_words.specs.declared.commands.Command.{Command}
 use Rattle.glk_words.specs.declared.commands.Command.TheVariants as command
 use Rattle.glk_words.specs.declared.commands.Flag.{Flag}
 use Rattle.glk_words.specs.declared.commands.Flag.TheVariants as flag
-use Rattle.glk_words.specs.Values.{found_in, truth_of, number_of, sorts, is_some, is_up_to, worker_limit, function_limit}
+use Rattle.glk_words.specs.Values.{found_in, truth_of, number_of, sorts, is_some, is_up_to, worker_limit}
+use Rattle.glk_base.specs.Limits.{function_limit}
 
 abbrev pub commands : List (List ℕ × Command)
 commands =

@@ -38,9 +38,6 @@ is_up_to most (Some n) = nat_le 1 n && nat_le n most
 abbrev pub worker_limit : ℕ
 worker_limit = 64
 
-abbrev pub function_limit : ℕ
-function_limit = 200000
-
 -- the orders of symbols that nm knows
 abbrev pub sorts : List (List ℕ × SymbolOrder)
 sorts =

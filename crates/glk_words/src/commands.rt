@@ -4,7 +4,8 @@ ghost use Rattle.glk_words.specs.Commands.{commands, flags_of, takes_file, is_tr
 ghost use Rattle.glk_words.specs.Values.{found_in};
 ghost use Rattle.glk_words.specs.declared.commands.Command.TheVariants as command;
 
-use crate::values::{FUNCTION_LIMIT, WORKER_LIMIT, is_up_to, number, order_named, truth};
+use crate::values::{WORKER_LIMIT, is_up_to, number, order_named, truth};
+use glk_base::FUNCTION_LIMIT;
 
 /// A command, the first word of a command line.
 #[derive(Clone, Copy, Debug, PartialEq, Eq)]
@@ -163,7 +164,7 @@ impl Flag {
             Flag::BuildMode => value == "exe",
             Flag::Sort => order_named(value).is_some(),
             Flag::Seed => number(value).is_some(),
-            Flag::Count => is_up_to(FUNCTION_LIMIT, number(value)),
+            Flag::Count => is_up_to(u64::from(FUNCTION_LIMIT), number(value)),
         }
     }
 }

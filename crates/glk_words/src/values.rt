@@ -6,9 +6,6 @@ ghost use Rattle.glk_words.specs.Values.{found_in, truth_of, number_of as number
 /// The most threads that work at once.
 pub const WORKER_LIMIT: u64 = 64;
 
-/// The most functions of a world that is made.
-pub const FUNCTION_LIMIT: u64 = 200_000;
-
 /// The order in which nm lists symbols.
 #[derive(Clone, Copy, Debug, PartialEq, Eq)]
 pub enum SymbolOrder {

@@ -1,5 +1,5 @@
 use Rattle.glk_io.specs.Streams.{joined}
-use Rattle.glk_nm.proofs.WritingLemmas.{each_more, each_fails, fails_anyway}
+use Rattle.glk_nm.proofs.WritingLemmas.{each_more, each_fails, fails_after}
 use Rattle.glk_nm.proofs.pending.Pending.write_each.Goals as goal
 
 pub loop-text-preserved : goal.loop-text-preserved
@@ -9,6 +9,6 @@ loop-text-preserved g c =
 
 pub returns-in_err-write : goal.returns-in_err-write
 returns-in_err-write g c =
-    fails_anyway _ _ c.args.self.now c.write.new.self (joined c.args.texts.now) c.from_residual.result _ c.from_residual.ensures.1
+    fails_after _ _ c.args.self.now c.write.new.self (joined c.args.texts.now) c.from_residual.result _ c.from_residual.ensures.1
     (each_fails _ _ _ c.args.self.now c.loop-text.self c.write.new.self c.args.texts.now c.loop-text.text-index _ c.loop-text-test.true
     c.loop-text.invariant c.in_err-write.ensures)

@@ -1,7 +1,7 @@
 use Rattle.std.proofs.Common.{◌≡◌, ◌≤◌, ◌*◌, ◌^◌, take}
 use Rattle.std.specs.List.{sum_by}
 use Rattle.glk_layout.specs.Symbols.{name_room}
-use Rattle.glk_layout.proofs.symbols.names_length.Given as goal
+use Rattle.glk_layout.proofs.symbols.names_room.Given as goal
 
 abbrev pub invariant-loop-symbol : goal.invariant-loop-symbol
 invariant-loop-symbol l = record {
