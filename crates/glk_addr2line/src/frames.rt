@@ -1,8 +1,8 @@
 // The text of an address in a function.
 ghost use Rattle.std.specs.Prelude.{◌≡◌};
 ghost use Rattle.glk_addr2line.specs.Texts.{frame_text, frames_text, first_text, found_text, function_text};
-ghost use Rattle.glk_addr2line.specs.Writing.{WritesText};
 ghost use Rattle.glk_frames_reader.specs.Views.{frame_view};
+ghost use Rattle.glk_io.specs.Changes.{WritesText};
 
 use crate::writing::{write_pair, write_unknown};
 use glk_frames_reader::{Frame, Frames, Func};

@@ -1,8 +1,8 @@
 // The text of all addresses of an input, written to a sink.
 ghost use Rattle.std.specs.Prelude.{◌≡◌, [], ◌∷◌, ◌==◌, ◌&&◌, length, if◌then◌else◌};
+ghost use Rattle.glk_io.specs.Changes.{WritesText};
 ghost use Rattle.glk_addr2line.specs.Answers.{WritesAddresses};
 ghost use Rattle.glk_addr2line.specs.Texts.{input_text, line_text, lines_text, address_text};
-ghost use Rattle.glk_addr2line.specs.Writing.{WritesText};
 
 use crate::address::address_of;
 use crate::fault::LineFault;

@@ -1,8 +1,8 @@
 // A function with a file and a line, as it is printed.
 ghost use Rattle.std.specs.Fmt.{signed_decimal};
 ghost use Rattle.std.specs.Prelude.{◌++◌, codes};
+ghost use Rattle.glk_io.specs.Changes.{WritesText};
 ghost use Rattle.glk_addr2line.specs.Texts.{pair_text, unknown_text};
-ghost use Rattle.glk_addr2line.specs.Writing.{WritesText};
 
 use glk_io::{Failed, Sink, write_all, write_pieces};
 use itoa::Buffer;

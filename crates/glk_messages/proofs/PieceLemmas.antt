@@ -5,36 +5,13 @@ use Rattle.std.specs.Prelude.{◌==◌, true, false}
 use Rattle.std.specs.List.{concat}
 use Rattle.std.proofs.Math.Seq.{take-suc}
 use Rattle.std.proofs.lemmas.List.{take-append-drop, append-nil}
-use Rattle.glk_io.specs.Changes.{SinkState, SinkAppends, SinkFails}
-use Rattle.glk_io.proofs.SinkLemmas.{both_whole, prefix_left, prefix_right}
+use Rattle.glk_io.specs.Changes.{SinkState, SinkAppends, SinkFails, WritesText}
+use Rattle.glk_io.proofs.SinkLemmas.{then_appends, then_fails, fails_first}
 use Rattle.glk_cause.specs.declared.cause.Cause.{Cause}
 use Rattle.glk_messages.specs.Messages.{refusal_text, undefined_text}
-use Rattle.glk_messages.specs.Lines.{line_of, WritesText, ReportsLine}
+use Rattle.glk_messages.specs.Lines.{line_of, ReportsLine}
 use Rattle.glk_messages.specs.Pieces.{spelled_piece, spelled_pieces}
 use Rattle.glk_messages.specs.declared.pieces.Piece.{Piece}
-
--- one text after the other
-pub then_appends : (a b c : SinkState) (xs ys : List ℕ) → SinkAppends a b xs → SinkAppends b c ys → SinkAppends a c (xs ++ ys)
-then_appends a b c xs ys h k = record {
-  bytes_are = both_whole a.held b.held c.held xs ys h.bytes_are k.bytes_are;
-  faults = k.faults ∙ h.faults;
-}
-
--- a text, and a prefix of another
-pub then_fails : (a b c : SinkState) (xs ys : List ℕ) → SinkAppends a b xs → SinkFails b c ys → SinkFails a c (xs ++ ys)
-then_fails a b c xs ys h f = record {
-  prefix = prefix_right a.held b.held c.held xs ys h.bytes_are f.prefix;
-  later = rw h.faults at f.later;
-  rose = rw h.faults at f.rose;
-}
-
--- a prefix of the first of two texts
-pub fails_first : (a b : SinkState) (xs ys : List ℕ) → SinkFails a b xs → SinkFails a b (xs ++ ys)
-fails_first a b xs ys f = record {
-  prefix = prefix_left a.held b.held xs ys f.prefix;
-  later = f.later;
-  rose = f.rose;
-}
 
 abbrev spelled : List Piece → List ℕ
 spelled ps = concat (spelled_pieces ps)
@@ -64,11 +41,6 @@ module _ (a b c : SinkState) (ps : List Piece) (n : ℕ) (d : Piece) (is : d ≡
       let k : SinkFails a c (spelled (take (n + 1) ps)) =
       rw (spelled_more ps n d inside) (then_fails a b c (spelled (take n ps)) (spelled_piece (get_or ps n d)) h (subst P is f)) in
       rw split (fails_first a c (spelled (take (n + 1) ps)) (spelled (drop (n + 1) ps)) k)
-
--- A `?` hands the fault on.
-pub fails_anyway : {T E : Type 0} (a b : SinkState) (text : List ℕ) (r : Result T E) (e : E) → IsErrAnd r (λ f. f ≡ e) → SinkFails a b text → WritesText a b text r
-fails_anyway a b text (Ok x) e was h = absurd was
-fails_anyway a b text (Err f) e was h = h
 
 -- The line: its name, its text, its end.
 

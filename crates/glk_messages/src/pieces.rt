@@ -2,7 +2,8 @@
 ghost use Rattle.std.specs.Prelude.{◌≡◌};
 ghost use Rattle.std.specs.List.{concat};
 ghost use Rattle.hex.specs.Hex.{encode_lower};
-ghost use Rattle.glk_messages.specs.Lines.{line_of, WritesText, ReportsLine};
+ghost use Rattle.glk_io.specs.Changes.{WritesText};
+ghost use Rattle.glk_messages.specs.Lines.{line_of, ReportsLine};
 ghost use Rattle.glk_messages.specs.Pieces.{spelled_piece, spelled_pieces};
 
 use glk_base::Text;

@@ -3,7 +3,7 @@ use Rattle.std.proofs.Common.{◌≡◌, ℕ, ◌+◌, ◌<◌, List, [], ◌∷
 use Rattle.std.specs.List.{starts_with}
 use Rattle.std.specs.Prelude.{nat_eq}
 use Rattle.glk_base.specs.declared.rules.RuleFamily.TheVariants as family
-use Rattle.glk_base.proofs.RuleLaws.{one_first}
+use Rattle.glk_base.proofs.RuleLaws.{one_first, IsSameRule}
 use Rattle.glk_ar.specs.Archive.{Entry, IsMemberAt, IsRun, after, first_offset}
 use Rattle.glk_ar.specs.Part.{Part, HoldsPart}
 use Rattle.glk_ar.proofs.Once.{one_refusal, one_part}

@@ -1,7 +1,8 @@
 use Rattle.std.proofs.Common.{ap}
 use Rattle.glk_frames_reader.specs.Views.{frame_view}
 use Rattle.glk_addr2line.specs.Texts.{frame_text, frames_text}
-use Rattle.glk_addr2line.proofs.WritingLemmas.{more_written, more_fails, fails_anyway}
+use Rattle.glk_addr2line.proofs.WritingLemmas.{more_written, more_fails}
+use Rattle.glk_io.proofs.SinkLemmas.{fails_anyway}
 use Rattle.glk_addr2line.proofs.frames.write_frames.Goals as goal
 
 pub loop-frame-preserved : goal.loop-frame-preserved

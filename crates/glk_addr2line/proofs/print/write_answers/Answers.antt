@@ -3,7 +3,8 @@ use Rattle.glk_base.specs.Lines.{left_lines}
 use Rattle.glk_addr2line.specs.Lines.{without_empty_end}
 use Rattle.glk_addr2line.specs.Texts.{input_text, lines_text}
 use Rattle.glk_addr2line.proofs.LineLemmas.{first_lines, text_left}
-use Rattle.glk_addr2line.proofs.WritingLemmas.{more_written, more_fails, fails_anyway}
+use Rattle.glk_addr2line.proofs.WritingLemmas.{more_written, more_fails}
+use Rattle.glk_io.proofs.SinkLemmas.{fails_anyway}
 use Rattle.glk_addr2line.proofs.print.write_answers.Goals as goal
 
 pub loop-rest-preserved : goal.loop-rest-preserved

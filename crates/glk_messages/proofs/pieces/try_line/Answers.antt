@@ -1,5 +1,6 @@
 use Rattle.glk_messages.specs.Pieces.{spelled_pieces}
-use Rattle.glk_messages.proofs.PieceLemmas.{fails_anyway, name_fails, text_fails, line_ends}
+use Rattle.glk_messages.proofs.PieceLemmas.{name_fails, text_fails, line_ends}
+use Rattle.glk_io.proofs.SinkLemmas.{fails_anyway}
 use Rattle.glk_messages.proofs.pieces.try_line.Goals as goal
 
 pub returns-in_err-write_all : goal.returns-in_err-write_all

@@ -1,4 +1,5 @@
-use Rattle.glk_messages.proofs.PieceLemmas.{each_more, each_fails, fails_anyway}
+use Rattle.glk_messages.proofs.PieceLemmas.{each_more, each_fails}
+use Rattle.glk_io.proofs.SinkLemmas.{fails_anyway}
 use Rattle.glk_messages.proofs.pieces.write_each.Goals as goal
 
 pub loop-piece-preserved : goal.loop-piece-preserved
