@@ -13,7 +13,7 @@ use Rattle.glk_pctab.specs.Functions.{Pclntab, entries_named}
 use Rattle.glk_pctab.specs.Section.{zero_byte, names, tables, files, entries, file_offset, section, header_bytes, cutab, before_cutab, before_pclntable, pclntable, cutab_at, filetab_at, pctab_at, pclntable_at, zeros_to, next_multiple, records, records_from, with_records, functab, functab_end, starts, files_of, named_files, trees_of, trees}
 use Rattle.glk_pctab.specs.Sound.{section_limit, CanWriteAll}
 use Rattle.glk_pctab.specs.Building.{offsets_from, end_from, entries_view, file_view, AllCanWrite, AllAreSmall, AllHaveUnit}
-use Rattle.glk_pctab.specs.Parts.{cutab_by, pclntable_by, ArePartsOf}
+use Rattle.glk_pctab.specs.Parts.{cutab_by, pclntable_by, ArePartsOf, HaveLengths}
 use Rattle.glk_pctab.specs.declared.section.Parts.{Parts}
 use Rattle.glk_pctab.proofs.OffsetLemmas.{length_zeros_to}
 use Rattle.glk_pctab.proofs.SectionLemmas.{offsets, length_all_functab, length_before_cutab, length_cutab, names_end, cutab_end, files_end, tables_end, pclntable_end, functab_before}
@@ -139,8 +139,8 @@ too_long t n e f k r en ee ef ek er long =
 -- and else it is as long as they say
 pub parts_are : (t : Pclntab) (p : Parts) (n e f k r : ℕ) → n ≡ clamped (names_length t) → e ≡ length (entries t) → f ≡ clamped (files_length t) → k ≡ clamped (tables_length t) → r ≡ end_from (functab_end t.functions) t.functions
     → p.cutab ≡ cutab_by n → p.filetab ≡ cutab_by n + 4 * e → p.pctab ≡ cutab_by n + 4 * e + f → p.pclntable ≡ pclntable_by n e f k → pclntable_by n e f k + r < section_limit
-    → ArePartsOf t p × (length (section t) < section_limit)
-parts_are t p n e f k r en ee ef ek er ec el eb ep low =
+    → HaveLengths p n e f k (pclntable_by n e f k + r) → ArePartsOf t p × (length (section t) < section_limit)
+parts_are t p n e f k r en ee ef ek er ec el eb ep low long =
     let ls = parts_low n e f k r low in
     let un = unclamped (names_length t) n en ls.0 in
     let uf = unclamped (files_length t) f ef ls.1 in
@@ -151,6 +151,13 @@ parts_are t p n e f k r en ee ef ek er ec el eb ep low =
         filetab = el ∙ rw (un, ee) (filetab_by_at t);
         pctab = eb ∙ rw (un, ee, uf) (pctab_by_at t);
         pclntable = ep ∙ whole;
+        lengths = record {
+          names_long = long.names_long ∙ un;
+          entries_long = long.entries_long ∙ ee;
+          files_long = long.files_long ∙ uf;
+          tables_long = long.tables_long ∙ ap (λ m. 1 + m) uk;
+          ends = omega (arith, long.ends, whole, er, length_section t);
+        };
       },
       omega (arith, low, whole, er, length_section t),
     )

@@ -8,3 +8,4 @@ pub mod Contents
 pub mod Building
 pub mod Parts
 pub mod Witness
+pub mod Lists

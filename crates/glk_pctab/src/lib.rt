@@ -15,4 +15,4 @@ mod trees;
 pub use buckets::push_findfunctab;
 pub use function::{Function, InlinedCall, Pclntab};
 pub use laws::{functions_found, premises_are_met, section_reads_back};
-pub use section::{FunctionTables, SectionTooLong, build};
+pub use section::{FunctionTables, Parts, SectionTooLong, build, section_size};

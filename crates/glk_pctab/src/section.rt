@@ -6,7 +6,8 @@ ghost use Rattle.glk_pctab.specs.Section.{zero_byte, names, tables, files, entri
 ghost use Rattle.glk_pctab.specs.Sound.{CanWriteAll, section_limit};
 ghost use Rattle.glk_pctab.specs.Views.{view, units_view, functions_view};
 ghost use Rattle.glk_pctab.specs.Building.{entries_view, firsts_from};
-ghost use Rattle.glk_pctab.specs.Parts.{cutab_by, pclntable_by, ArePartsOf, Refuses};
+ghost use Rattle.glk_pctab.specs.Parts.{cutab_by, pclntable_by, ArePartsOf, HaveLengths, Refuses};
+ghost use Rattle.glk_pctab.specs.Lists.{AreListsOf};
 
 use crate::files::{all_files, entries_of, firsts_of};
 use crate::function::Pclntab;
@@ -28,24 +29,35 @@ const POINTER_SIZE: u8 = 8;
 // The length of pcHeader; funcnametab follows it.
 const HEADER_LENGTH: u64 = 72;
 
-/// The section and the inline trees of an image's functions.
+/// The section and the inline trees of an image's functions, and where the parts of the section are.
 #[derive(Debug, Drop)]
 pub struct FunctionTables {
     pub section: Vec<u8>,
     pub trees: Vec<u8>,
+    pub parts: Parts,
 }
 
 /// The section would have 2^32 bytes or more, so that its offsets have more than 32 bits.
 #[derive(Clone, Copy, Debug, PartialEq, Eq)]
 pub struct SectionTooLong;
 
-// The offsets of the parts of a section.
-#[derive(Clone, Copy)]
-pub(crate) struct Parts {
-    cutab: u64,
-    filetab: u64,
-    pctab: u64,
-    pclntable: u64,
+/// Where the parts of a section are. Funcnametab follows pcHeader.
+#[derive(Clone, Copy, Debug)]
+pub struct Parts {
+    /// The length of funcnametab in bytes.
+    pub name_bytes: u64,
+    /// The offset of cutab, and how many entries it has.
+    pub cutab: u64,
+    pub entries: u64,
+    /// The offset of filetab, and its length in bytes.
+    pub filetab: u64,
+    pub file_bytes: u64,
+    /// The offset of pctab, and its length in bytes.
+    pub pctab: u64,
+    pub table_bytes: u64,
+    /// The offset of pclntable, which ends where the section ends.
+    pub pclntable: u64,
+    pub end: u64,
 }
 
 // The offsets of the parts with these lengths, cutab in entries, where the section is shorter than
@@ -57,7 +69,8 @@ fn parts_of(names: u64, entries: u64, files: u64, tables: u64, records: u64) -> 
         (λ p. (p.cutab ≡ cutab_by names) × (p.filetab ≡ cutab_by names + 4 * entries)
         × (p.pctab ≡ cutab_by names + 4 * entries + files)
         × (p.pclntable ≡ pclntable_by names entries files tables)
-        × (pclntable_by names entries files tables + records < section_limit)) }
+        × (pclntable_by names entries files tables + records < section_limit)
+        × HaveLengths p names entries files tables (pclntable_by names entries files tables + records)) }
 {
     if names >= SECTION_LIMIT || entries >= SECTION_LIMIT {
         return None;
@@ -73,10 +86,15 @@ fn parts_of(names: u64, entries: u64, files: u64, tables: u64, records: u64) -> 
         return None;
     }
     Some(Parts {
+        name_bytes: names,
         cutab,
+        entries,
         filetab,
+        file_bytes: files,
         pctab,
+        table_bytes: 1 + tables,
         pclntable,
+        end: pclntable + records,
     })
 }
 
@@ -247,17 +265,23 @@ fn write_trees(alloc: Global, t: &Pclntab<'_>, name_pool: &Pool<'_>) -> Result<V
     Ok(out)
 }
 
-/// The section `.gopclntab` and the inline trees of an image's functions. Names, files and pc tables
-/// stand once each, however often they are given. It takes a pass over the functions for each part,
-/// and memory for the bytes and for the lists of first use.
-///
-/// # Errors
-/// The section would have 2^32 bytes or more; or out of memory.
-pub fn build(alloc: Global, t: &Pclntab<'_>) -> Result<FunctionTables, Fault<SectionTooLong>>
+// What the section is written from: the index of each unit's first entry, the entries of cutab, and names, files and tables
+// of first use, with where the parts are.
+#[derive(Drop)]
+struct Lists<'a> {
+    firsts: Vec<u32>,
+    entries: Vec<Option<&'a [u8]>>,
+    names: Pool<'a>,
+    files: Pool<'a>,
+    tables: Pool<'a>,
+    parts: Parts,
+}
+
+// The lists of an image's functions, where the section is shorter than the limit.
+fn lists_of<'a>(alloc: Global, t: &Pclntab<'a>) -> Result<Lists<'a>, Fault<SectionTooLong>>
     requires { CanWriteAll (view t.now) }
-    ensures section { IfOk result (λ made. made.section.items ≡ section (view t.now)) }
-    ensures trees { IfOk result (λ made. made.trees.items ≡ trees (view t.now)) }
-    ensures short { IfOk result (λ made. length (section (view t.now)) < section_limit) }
+    ensures lists { IfOk result (λ lists. AreListsOf t.now lists) }
+    ensures short { IfOk result (λ lists. length (section (view t.now)) < section_limit) }
     ensures refuses { IfErr result (Refuses (view t.now)) }
 {
     let unit_files = all_files(alloc, t.units)?;
@@ -275,13 +299,62 @@ pub fn build(alloc: Global, t: &Pclntab<'_>) -> Result<FunctionTables, Fault<Sec
     let files = files_of(alloc, &entries)?;
     let tables = tables_of(alloc, t.functions)?;
     match section_parts(t, &names, &files, &tables, entry_count) {
-        Some(parts) => {
-            let section = write_section(
-                alloc, t, &names, &files, &tables, &entries, &firsts, parts,
-            )?;
-            let trees = write_trees(alloc, t, &names)?;
-            Ok(FunctionTables { section, trees })
-        }
+        Some(parts) => Ok(Lists {
+            firsts,
+            entries,
+            names,
+            files,
+            tables,
+            parts,
+        }),
         None => Err(Fault::Bad(SectionTooLong)),
     }
+}
+
+/// How long the section `.gopclntab` of an image's functions is, in bytes. It does not depend on where
+/// functions and data are, so it can be asked for before they are placed. The time and the memory are those of `build`, but
+/// for the bytes.
+///
+/// # Errors
+/// The section would have 2^32 bytes or more; or out of memory.
+pub fn section_size(alloc: Global, t: &Pclntab<'_>) -> Result<u64, Fault<SectionTooLong>>
+    requires { CanWriteAll (view t.now) }
+    ensures size { IfOk result (λ size. size ≡ length (section (view t.now))) }
+    ensures refuses { IfErr result (Refuses (view t.now)) }
+{
+    let lists = lists_of(alloc, t)?;
+    Ok(lists.parts.end)
+}
+
+/// The section `.gopclntab` and the inline trees of an image's functions. Names, files and pc tables
+/// stand once each, however often they are given. It takes a pass over the functions for each part,
+/// and memory for the bytes and for the lists of first use.
+///
+/// # Errors
+/// The section would have 2^32 bytes or more; or out of memory.
+pub fn build(alloc: Global, t: &Pclntab<'_>) -> Result<FunctionTables, Fault<SectionTooLong>>
+    requires { CanWriteAll (view t.now) }
+    ensures section { IfOk result (λ made. made.section.items ≡ section (view t.now)) }
+    ensures trees { IfOk result (λ made. made.trees.items ≡ trees (view t.now)) }
+    ensures parts { IfOk result (λ made. ArePartsOf (view t.now) made.parts) }
+    ensures short { IfOk result (λ made. length (section (view t.now)) < section_limit) }
+    ensures refuses { IfErr result (Refuses (view t.now)) }
+{
+    let lists = lists_of(alloc, t)?;
+    let section = write_section(
+        alloc,
+        t,
+        &lists.names,
+        &lists.files,
+        &lists.tables,
+        &lists.entries,
+        &lists.firsts,
+        lists.parts,
+    )?;
+    let trees = write_trees(alloc, t, &lists.names)?;
+    Ok(FunctionTables {
+        section,
+        trees,
+        parts: lists.parts,
+    })
 }

@@ -1,6 +1,6 @@
 -- What an object says of a function's tables: what its auxes name.
 use Rattle.std.specs.Prelude.{ℕ, ◌<◌, ◌^◌, List, [], length, Bool, nat_le, Option, None, Some, cond}
-use Rattle.glk_obj.specs.declared.symbols.SymKind.{SymKind}
+use Rattle.glk_tables.specs.declared.function.FuncdataTarget.{FuncdataTarget}
 use Rattle.glk_obj.specs.FuncInfos.{node_count, node_offset}
 
 -- what an aux names: nothing, a symbol without a definition, or the data of its definition
@@ -10,7 +10,7 @@ pub data Target : Type 0 where
   Defined : List ℕ → Target
 
 -- A function's auxes: how many funcinfo there are, and what the first names; what the first of each of four pc tables
--- names; what each pcdata names; and the type of what each funcdata names, if it is no empty place.
+-- names; what each pcdata names; and what each funcdata names.
 pub record FuncTables : Type 0 where
   pub infos : ℕ
   pub info : Target
@@ -19,7 +19,7 @@ pub record FuncTables : Type 0 where
   pub pcline : Target
   pub pcinline : Target
   pub pcdata : List Target
-  pub funcdata : List (Option SymKind)
+  pub funcdata : List FuncdataTarget
 
 -- the bytes of a pc table: there are none without a definition
 abbrev pub table_bytes : Target → List ℕ

@@ -1,8 +1,9 @@
 -- The rules P1 to P9 of a function's tables.
 use Rattle.std.specs.Prelude.{ℕ, List, [], ◌∷◌, length, Bool, true, false, not, ◌||◌, Option, None, Some, cond, nat_lt, ℤ, pos, negsuc}
 use Rattle.glk_pcval.specs.Table.{ranges, fault}
-use Rattle.glk_obj.specs.declared.symbols.SymKind.{SymKind}
 use Rattle.glk_obj.specs.declared.symbols.SymKind.TheVariants.{Rodata}
+use Rattle.glk_tables.specs.declared.function.FuncdataTarget.{FuncdataTarget}
+use Rattle.glk_tables.specs.declared.function.FuncdataTarget.TheVariants.{Empty, Untyped, Typed}
 use Rattle.glk_obj.specs.Blocks.{count, file}
 use Rattle.glk_obj.specs.FuncInfos.{node_at}
 use Rattle.glk_obj.specs.References.{in_range}
@@ -57,10 +58,11 @@ is_undefined Undefined = true
 is_undefined (Defined bytes) = false
 
 -- what a funcdata names is not read-only data
-abbrev pub is_not_rodata : Option SymKind → Bool
-is_not_rodata None = false
-is_not_rodata (Some Rodata) = false
-is_not_rodata (Some _) = true
+abbrev pub is_not_rodata : FuncdataTarget → Bool
+is_not_rodata Empty = false
+is_not_rodata Untyped = true
+is_not_rodata (Typed Rodata) = false
+is_not_rodata (Typed _) = true
 
 abbrev pub any : {A : Type 0} → (A → Bool) → List A → Bool
 any test [] = false

@@ -14,6 +14,15 @@ pub enum AuxTarget<'a> {
     Defined(&'a [u8]),
 }
 
+/// What a funcdata names: nothing, as an empty place; a symbol that has no type, as one without a
+/// definition or a name that the linker makes; or a symbol of a type.
+#[derive(Clone, Copy, Debug, PartialEq, Eq)]
+pub enum FuncdataTarget {
+    Empty,
+    Untyped,
+    Typed(SymKind),
+}
+
 /// What a function's auxes name.
 #[derive(Clone, Copy, Debug)]
 pub struct FuncTables<'a> {
@@ -27,8 +36,8 @@ pub struct FuncTables<'a> {
     pub pcinline: AuxTarget<'a>,
     /// Each pcdata.
     pub pcdata: &'a [AuxTarget<'a>],
-    /// The type of what each funcdata names, none of an empty place.
-    pub funcdata: &'a [Option<SymKind>],
+    /// Each funcdata.
+    pub funcdata: &'a [FuncdataTarget],
 }
 
 // The bytes of a pc table: none without a definition.

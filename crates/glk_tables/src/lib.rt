@@ -8,6 +8,6 @@ mod rules;
 mod table;
 mod values;
 
-pub use function::{AuxTarget, FuncTables};
+pub use function::{AuxTarget, FuncTables, FuncdataTarget};
 pub use rules::check_tables;
 pub use table::{BrokenTable, Table};

@@ -9,7 +9,7 @@ ghost use Rattle.glk_tables.specs.Rules.{any, is_short as is_short_of, is_no_tab
 ghost use Rattle.glk_tables.specs.Views.{target_view, tables_view, broken_view, HasSmallTables, RefusesFirst};
 
 use crate::calls::has_long_chain;
-use crate::function::{AuxTarget, FuncTables, nodes_of, read_info, table_bytes};
+use crate::function::{AuxTarget, FuncTables, FuncdataTarget, nodes_of, read_info, table_bytes};
 use crate::table::{BrokenTable, Table};
 use crate::values::{has_outside, is_no_table};
 use glk_base::{Fault, OutOfMemory};
@@ -45,13 +45,14 @@ fn is_undefined(target: AuxTarget<'_>) -> bool
 }
 
 // Whether a funcdata names what is not read-only data.
-fn is_not_rodata(kind: Option<SymKind>) -> bool
-    ensures { result ≡ is_not_rodata_of kind }
+fn is_not_rodata(target: FuncdataTarget) -> bool
+    ensures { result ≡ is_not_rodata_of target }
 {
-    match kind {
-        None => false,
-        Some(SymKind::Rodata) => false,
-        Some(_) => true,
+    match target {
+        FuncdataTarget::Empty => false,
+        FuncdataTarget::Untyped => true,
+        FuncdataTarget::Typed(SymKind::Rodata) => false,
+        FuncdataTarget::Typed(_) => true,
     }
 }
 
@@ -83,10 +84,10 @@ fn any_undefined(targets: &[AuxTarget<'_>]) -> bool
 }
 
 // Whether a funcdata names what is not read-only data.
-fn any_not_rodata(kinds: &[Option<SymKind>]) -> bool
-    ensures { result ≡ any is_not_rodata_of kinds.now }
+fn any_not_rodata(targets: &[FuncdataTarget]) -> bool
+    ensures { result ≡ any is_not_rodata_of targets.now }
 {
-    let mut rest = kinds;
+    let mut rest = targets;
     while let [first, after @ ..] = rest {
         if is_not_rodata(*first) {
             return true;

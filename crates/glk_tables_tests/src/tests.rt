@@ -1,7 +1,7 @@
 // A function with two inlined calls, in an object with one file.
 use glk_base::{Fault, OutOfMemory};
 use glk_obj::ObjView;
-use glk_tables::{AuxTarget, BrokenTable, FuncTables, Table, check_tables};
+use glk_tables::{AuxTarget, BrokenTable, FuncTables, FuncdataTarget, Table, check_tables};
 use std::process::Abort;
 use std::test::Fail;
 
@@ -29,12 +29,13 @@ const LINES: &[u8] = b"\x16\x04\x14\x04\x04\x04\x00";
 
 const CALLS: &[u8] = b"\x00\x04\x02\x04\x02\x04\x00";
 
-// What is refused of a function with this FuncInfo and this pcsp.
+// What is refused of a function with this FuncInfo, this pcsp and these funcdata.
 fn answer(
     rt: &impl Abort,
     alloc: std::alloc::Global,
     info: &[u8],
     pcsp: &[u8],
+    funcdata: &[FuncdataTarget],
 ) -> Result<Option<BrokenTable>, Fail> {
     assert!(rt; pcsp.len() < 100);
     let object = ObjView::read(OBJECT)?;
@@ -46,7 +47,7 @@ fn answer(
         pcline: AuxTarget::Defined(LINES),
         pcinline: AuxTarget::Defined(CALLS),
         pcdata: &[],
-        funcdata: &[],
+        funcdata,
     };
     match check_tables(alloc, &object, &tables) {
         Ok(()) => Ok(None),
@@ -57,14 +58,14 @@ fn answer(
 
 #[test]
 fn a_sound_function_is_accepted(rt: HostRuntime) -> Result<(), Fail> {
-    let found = answer(&rt, rt.alloc(), INFO, ZERO)?;
+    let found = answer(&rt, rt.alloc(), INFO, ZERO, &[FuncdataTarget::Empty])?;
     assert_eq!(rt; found, None);
     Ok(())
 }
 
 #[test]
 fn a_call_in_itself_is_refused(rt: HostRuntime) -> Result<(), Fail> {
-    let found = answer(&rt, rt.alloc(), CYCLE, ZERO)?;
+    let found = answer(&rt, rt.alloc(), CYCLE, ZERO, &[])?;
     assert_eq!(rt;
         found,
         Some(BrokenTable {
@@ -77,12 +78,25 @@ fn a_call_in_itself_is_refused(rt: HostRuntime) -> Result<(), Fail> {
 
 #[test]
 fn a_table_without_its_end_is_refused(rt: HostRuntime) -> Result<(), Fail> {
-    let found = answer(&rt, rt.alloc(), CYCLE, b"\x02\x0c")?;
+    let found = answer(&rt, rt.alloc(), CYCLE, b"\x02\x0c", &[])?;
     assert_eq!(rt;
         found,
         Some(BrokenTable {
             table: Table::Pcsp,
             rule: 2,
+        })
+    );
+    Ok(())
+}
+
+#[test]
+fn a_funcdata_without_a_type_is_refused(rt: HostRuntime) -> Result<(), Fail> {
+    let found = answer(&rt, rt.alloc(), INFO, ZERO, &[FuncdataTarget::Untyped])?;
+    assert_eq!(rt;
+        found,
+        Some(BrokenTable {
+            table: Table::Funcdata,
+            rule: 7,
         })
     );
     Ok(())

@@ -1,54 +1,14 @@
-use Rattle.std.proofs.Common.{arith, ap, ◌∙◌, length}
-use Rattle.glk_pctab.specs.Views.{view, texts_of}
-use Rattle.glk_pctab.specs.Building.{entries_view}
-use Rattle.glk_pctab.proofs.Assembly.{many_entries, many_functions, files_counted, entries_counted, units_all, short_names, new_pool}
+use Rattle.std.proofs.Common.{arith}
+use Rattle.glk_pctab.specs.Views.{view}
+use Rattle.glk_pctab.proofs.Assembly.{short_names}
 use Rattle.glk_pctab.proofs.RecordSteps.{functions_counted}
+use Rattle.glk_pctab.proofs.SectionLemmas.{functab_before, pclntable_end}
 use Rattle.glk_pctab.proofs.section.build.Goals as goal
 
-pub returns-then-entry_count-ge-SECTION_LIMIT-clause-refuses : goal.returns-then-entry_count-ge-SECTION_LIMIT-clause-refuses
-returns-then-entry_count-ge-SECTION_LIMIT-clause-refuses c =
-    let count = files_counted c.args.t.now c.in_ok-unit_files.unit_files.items c.in_ok-unit_files.ensures in
-    many_entries (view c.args.t.now) (omega (arith, c.if-entry_count-ge-SECTION_LIMIT.true, c.len-entry_count.ensures, c.in_ok-unit_files.unit_files.ok.0, count))
-
-pub returns-then-function_count-ge-SECTION_LIMIT-clause-refuses : goal.returns-then-function_count-ge-SECTION_LIMIT-clause-refuses
-returns-then-function_count-ge-SECTION_LIMIT-clause-refuses c =
-    many_functions (view c.args.t.now) (omega (arith, c.if-function_count-ge-SECTION_LIMIT.true, functions_counted c.args.t.now.functions.now))
-
-pub firsts_of-requires : goal.firsts_of-requires
-firsts_of-requires c =
-    let count = files_counted c.args.t.now c.in_ok-unit_files.unit_files.items c.in_ok-unit_files.ensures in
-    omega (arith, c.if-entry_count-ge-SECTION_LIMIT.false, c.len-entry_count.ensures, c.in_ok-unit_files.unit_files.ok.0, count, entries_counted (view c.args.t.now))
-
-pub entries_of-requires : goal.entries_of-requires
-entries_of-requires c = record {
-  files = ap texts_of c.deref.ensures.value ∙ c.in_ok-unit_files.ensures;
-  small = omega (arith, c.if-entry_count-ge-SECTION_LIMIT.false, c.len-entry_count.ensures, c.in_ok-unit_files.unit_files.ok.0, ap length c.deref.ensures.value);
-  firsts = c.deref-2.ensures.value ∙ c.in_ok-firsts.ensures;
-  units = units_all c.args.t.now c.requires;
-}
-
-pub section_parts-requires : goal.section_parts-requires
-section_parts-requires c = record {
-  can_write = c.requires;
-  few = omega (arith, c.if-function_count-ge-SECTION_LIMIT.false);
-  names = c.in_ok-names.ensures;
-  files = c.in_ok-files.ensures ∙ new_pool _ _ (ap entries_view c.deref-3.ensures.value ∙ c.in_ok-entries.ensures);
-  tables = c.in_ok-tables.ensures;
-  entries = omega (arith, c.len-entry_count.ensures, c.in_ok-unit_files.unit_files.ok.0, files_counted c.args.t.now c.in_ok-unit_files.unit_files.items c.in_ok-unit_files.ensures);
-}
-
-pub write_section-requires : goal.write_section-requires
-write_section-requires c = record {
-  can_write = c.requires;
-  few = omega (arith, c.if-function_count-ge-SECTION_LIMIT.false);
-  names = c.in_ok-names.ensures;
-  files = c.in_ok-files.ensures ∙ new_pool _ _ (ap entries_view c.deref-3.ensures.value ∙ c.in_ok-entries.ensures);
-  tables = c.in_ok-tables.ensures;
-  entries = ap entries_view c.deref-in-Some.ensures.value ∙ c.in_ok-entries.ensures;
-  firsts = c.deref-in-Some-2.ensures.value ∙ c.in_ok-firsts.ensures;
-  parts = c.in-Some.ensures.0;
-  short = c.in-Some.ensures.1;
-}
-
 pub write_trees-requires : goal.write_trees-requires
-write_trees-requires c = record { names = c.in_ok-names.ensures; short = short_names (view c.args.t.now) c.in-Some.ensures.1 }
+write_trees-requires c = record { names = c.in_ok-lists.ensures.lists.names_are; short = short_names (view c.args.t.now) c.in_ok-lists.ensures.short }
+
+pub write_section-requires-clause-few : goal.write_section-requires-clause-few
+write_section-requires-clause-few c =
+    let t = view c.args.t.now in
+    omega (arith, functions_counted c.args.t.now.functions.now, functab_before t, pclntable_end t, c.in_ok-lists.ensures.short)

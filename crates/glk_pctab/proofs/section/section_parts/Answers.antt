@@ -19,5 +19,5 @@ returns-in-Some c =
     let r = c.in-Some.ensures.0 ∙ end_is c.args.t.now in
     match_parts c.parts_of.result
     (λ long. too_long t c.size-names.result c.args.entry_count c.size-files.result c.size-tables.result c.in-Some.end n c.requires.entries f k r long)
-    (λ p is. parts_are t p c.size-names.result c.args.entry_count c.size-files.result c.size-tables.result c.in-Some.end n c.requires.entries f k r is.0 is.1 is.2 is.3 is.4)
+    (λ p is. parts_are t p c.size-names.result c.args.entry_count c.size-files.result c.size-tables.result c.in-Some.end n c.requires.entries f k r is.0 is.1 is.2 is.3 is.4 is.5)
     c.parts_of.ensures
