@@ -1,5 +1,4 @@
 pub mod Addresses
 pub mod Lines
 pub mod Texts
-pub mod Writing
 pub mod Answers

@@ -2,36 +2,49 @@
 ghost use Rattle.std.specs.Prelude.{◌≡◌};
 ghost use Rattle.glk_addr2line.specs.Texts.{frame_text, frames_text, first_text, found_text, function_text};
 ghost use Rattle.glk_frames_reader.specs.Views.{frame_view};
-ghost use Rattle.glk_io.specs.Changes.{WritesText};
+ghost use Rattle.glk_pending.specs.Writing.{WritesAfter};
 
 use crate::writing::{write_pair, write_unknown};
 use glk_frames_reader::{Frame, Frames, Func};
 use glk_io::{Failed, Sink};
+use glk_pending::Pending;
 
 // Writes a frame.
-fn write_frame<O: Sink>(frame: &Frame<'_>, out: &mut O) -> Result<(), Failed>
-    ensures { WritesText (O.state out.old) (O.state out.new) (frame_text (frame_view frame.now)) result }
+fn write_frame<O: Sink>(frame: &Frame<'_>, pending: &mut Pending, out: &mut O) -> Result<(), Failed>
+    ensures { WritesAfter (O.state out.old) (O.state out.new) pending.old pending.new
+        (frame_text (frame_view frame.now)) result }
 {
-    write_pair(frame.name, frame.file, frame.line, out)
+    write_pair(frame.name, frame.file, frame.line, pending, out)
 }
 
 // Writes these frames.
-fn write_frames<O: Sink>(mut frames: Frames<'_>, out: &mut O) -> Result<(), Failed>
-    ensures { WritesText (O.state out.old) (O.state out.new) (frames_text frames.entry) result }
+fn write_frames<O: Sink>(
+    mut frames: Frames<'_>,
+    pending: &mut Pending,
+    out: &mut O,
+) -> Result<(), Failed>
+    ensures { WritesAfter (O.state out.old) (O.state out.new) pending.old pending.new
+        (frames_text frames.entry) result }
 {
     while let Some(frame) = frames.next() {
-        write_frame(&frame, out)?;
+        write_frame(&frame, pending, out)?;
     }
     Ok(())
 }
 
 // Writes a function with the file and the line of the first of these frames.
-fn write_first<O: Sink>(name: &[u8], mut frames: Frames<'_>, out: &mut O) -> Result<(), Failed>
-    ensures { WritesText (O.state out.old) (O.state out.new) (first_text name.now frames.entry) result }
+fn write_first<O: Sink>(
+    name: &[u8],
+    mut frames: Frames<'_>,
+    pending: &mut Pending,
+    out: &mut O,
+) -> Result<(), Failed>
+    ensures { WritesAfter (O.state out.old) (O.state out.new) pending.old pending.new
+        (first_text name.now frames.entry) result }
 {
     match frames.next() {
-        Some(frame) => write_pair(name, frame.file, frame.line, out),
-        None => write_unknown(out),
+        Some(frame) => write_pair(name, frame.file, frame.line, pending, out),
+        None => write_unknown(pending, out),
     }
 }
 
@@ -40,14 +53,16 @@ fn write_function<O: Sink>(
     inline: bool,
     func: &Func<'_>,
     pc: u64,
+    pending: &mut Pending,
     out: &mut O,
 ) -> Result<(), Failed>
-    ensures { WritesText (O.state out.old) (O.state out.new) (function_text inline func.now pc) result }
+    ensures { WritesAfter (O.state out.old) (O.state out.new) pending.old pending.new
+        (function_text inline func.now pc) result }
 {
     if inline {
-        write_frames(func.frames(pc), out)
+        write_frames(func.frames(pc), pending, out)
     } else {
-        write_first(func.name(), func.frames(pc), out)
+        write_first(func.name(), func.frames(pc), pending, out)
     }
 }
 
@@ -56,12 +71,14 @@ pub(crate) fn write_found<O: Sink>(
     inline: bool,
     pc: u64,
     found: Option<Func<'_>>,
+    pending: &mut Pending,
     out: &mut O,
 ) -> Result<(), Failed>
-    ensures { WritesText (O.state out.old) (O.state out.new) (found_text inline pc found.entry) result }
+    ensures { WritesAfter (O.state out.old) (O.state out.new) pending.old pending.new
+        (found_text inline pc found.entry) result }
 {
     match found {
-        Some(func) => write_function(inline, &func, pc, out),
-        None => write_unknown(out),
+        Some(func) => write_function(inline, &func, pc, pending, out),
+        None => write_unknown(pending, out),
     }
 }

@@ -1,10 +1,11 @@
 // A function with a file and a line, as it is printed.
 ghost use Rattle.std.specs.Fmt.{signed_decimal};
 ghost use Rattle.std.specs.Prelude.{◌++◌, codes};
-ghost use Rattle.glk_io.specs.Changes.{WritesText};
+ghost use Rattle.glk_pending.specs.Writing.{WritesAfter};
 ghost use Rattle.glk_addr2line.specs.Texts.{pair_text, unknown_text};
 
-use glk_io::{Failed, Sink, write_all, write_pieces};
+use glk_io::{Failed, Sink};
+use glk_pending::Pending;
 use itoa::Buffer;
 
 // Writes a function, a file and the digits of a line.
@@ -12,12 +13,13 @@ fn write_words<'a, O: Sink>(
     name: &'a [u8],
     file: &'a [u8],
     line: &'a [u8],
+    pending: &mut Pending,
     out: &mut O,
 ) -> Result<(), Failed>
-    ensures { WritesText (O.state out.old) (O.state out.new)
+    ensures { WritesAfter (O.state out.old) (O.state out.new) pending.old pending.new
         (name.now ++ codes "\n" ++ file.now ++ codes ":" ++ line.now ++ codes "\n") result }
 {
-    write_pieces(out, &[name, b"\n", file, b":", line, b"\n"])
+    pending.write_each(&[name, b"\n", file, b":", line, b"\n"], out)
 }
 
 // Writes a function, a file and a line.
@@ -26,17 +28,19 @@ pub(crate) fn write_pair<O: Sink>(
     name: &[u8],
     file: &[u8],
     line: i32,
+    pending: &mut Pending,
     out: &mut O,
 ) -> Result<(), Failed>
-    ensures { WritesText (O.state out.old) (O.state out.new) (pair_text name.now file.now line) result }
+    ensures { WritesAfter (O.state out.old) (O.state out.new) pending.old pending.new
+        (pair_text name.now file.now line) result }
 {
     let mut room = Buffer::new();
-    write_words(name, file, room.format(line).as_bytes(), out)
+    write_words(name, file, room.format(line).as_bytes(), pending, out)
 }
 
 // Writes that there is no function.
-pub(crate) fn write_unknown<O: Sink>(out: &mut O) -> Result<(), Failed>
-    ensures { WritesText (O.state out.old) (O.state out.new) unknown_text result }
+pub(crate) fn write_unknown<O: Sink>(pending: &mut Pending, out: &mut O) -> Result<(), Failed>
+    ensures { WritesAfter (O.state out.old) (O.state out.new) pending.old pending.new unknown_text result }
 {
-    write_all(out, b"?\n?:0\n")
+    pending.write(b"?\n?:0\n", out)
 }

@@ -1,5 +1,6 @@
 // One function, main.f, into which a call of main.g is inlined, and into that a call of main.h.
 use glk_addr2line::{LineFault, addr2line, one_address_text};
+use glk_base::Fault;
 use glk_elf::ElfView;
 use glk_io::MemSink;
 use std::alloc::Global;
@@ -57,10 +58,10 @@ fn text_of(
     image: &[u8; 644],
     inline: bool,
     input: &[u8],
-) -> Result<(Vec<u8>, Result<(), LineFault>), Fail> {
+) -> Result<(Vec<u8>, Result<(), Fault<LineFault>>), Fail> {
     let view = ElfView::read(image)?;
     let mut out = MemSink::new(alloc, ROOM, Vec::new(alloc))?;
-    let answer = addr2line(&view, inline, input, &mut out);
+    let answer = addr2line(alloc, &view, inline, input, &mut out);
     Ok((out.bytes().to_vec(alloc)?, answer))
 }
 
@@ -114,7 +115,7 @@ fn an_image_without_tables_has_no_functions(rt: HostRuntime) -> Result<(), Fail>
     let (found, answer) = text_of(rt.alloc(), &image, false, b"401009")?;
     assert!(rt; found.is_empty());
     match answer {
-        Err(LineFault::Elf(bad)) => assert_eq!(rt; bad.rule, 12),
+        Err(Fault::Bad(LineFault::Elf(bad))) => assert_eq!(rt; bad.rule, 12),
         _ => assert!(rt; found.len() > 0),
     }
     Ok(())

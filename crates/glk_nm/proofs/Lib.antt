@@ -1,4 +1,3 @@
-pub mod WritingLemmas
 pub mod SortedOnce
 pub mod ListingLemmas
 pub mod HexadecimalLemmas

@@ -22,8 +22,8 @@ use Rattle.glk_nm.specs.declared.options.NmSort.TheVariants as by
 use Rattle.glk_nm.proofs.SortedOnce.{sorted_once}
 use Rattle.glk_io.specs.Changes.{SinkState, SinkFails}
 use Rattle.glk_nm.specs.Lines.{line_of}
-use Rattle.glk_nm.specs.Writing.{IsPartlyWritten}
-use Rattle.glk_nm.proofs.WritingLemmas.{more_written, more_fails, fails_early}
+use Rattle.glk_pending.specs.Writing.{IsPartlyWritten}
+use Rattle.glk_pending.proofs.WritingLemmas.{more_written, more_fails, fails_early}
 
 -- a symbol of a file as the code has it
 abbrev code_symbol : FileSymbol → ElfSym

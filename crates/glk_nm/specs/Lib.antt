@@ -2,5 +2,4 @@ pub mod Gabi
 pub mod Letters
 pub mod Lines
 pub mod Listing
-pub mod Writing
 pub mod Answers

@@ -8,7 +8,6 @@ mod letter;
 mod line;
 mod listing;
 mod options;
-mod pending;
 mod print;
 
 pub use laws::one_nm_text;

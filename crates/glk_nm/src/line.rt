@@ -2,14 +2,14 @@
 ghost use Rattle.std.specs.Prelude.{◌≡◌, ◌≤◌};
 ghost use Rattle.glk_elf.specs.ReaderViews.{symbol_record};
 ghost use Rattle.glk_nm.specs.Lines.{blanks_before as blanks_of, address_text as address_text_of, address_field, size_field, words_of, line_of};
-ghost use Rattle.glk_nm.specs.Writing.{WritesAfter};
+ghost use Rattle.glk_pending.specs.Writing.{WritesAfter};
 
 use crate::gabi::SHN_UNDEF;
 use crate::hexadecimal::{HEX_DIGITS, hexadecimal};
 use crate::letter::letter_of;
-use crate::pending::Pending;
 use glk_elf::{ElfSym, ElfView};
 use glk_io::{Failed, Sink};
+use glk_pending::Pending;
 use itoa::Buffer;
 
 // How many places the address has.

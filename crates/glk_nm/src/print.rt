@@ -4,15 +4,15 @@ ghost use Rattle.glk_io.specs.Changes.{WritesText};
 ghost use Rattle.glk_elf.specs.ReaderViews.{symbol_record};
 ghost use Rattle.glk_nm.specs.Answers.{WritesSymbols, with_fault};
 ghost use Rattle.glk_nm.specs.Listing.{is_listed as is_listed_one, listed_symbols, lines_of};
-ghost use Rattle.glk_nm.specs.Writing.{WritesAfter};
+ghost use Rattle.glk_pending.specs.Writing.{WritesAfter};
 
 use crate::line::write_line;
 use crate::listing::{is_listed, sorted_symbols};
 use crate::options::{NmOptions, NmSort};
-use crate::pending::Pending;
 use glk_base::Fault;
 use glk_elf::{ElfSym, ElfView};
 use glk_io::{Failed, Sink};
+use glk_pending::Pending;
 use std::alloc::Global;
 
 /// Writes the lines of an image's symbols, all but those that stand for a section or a source file.

@@ -2,7 +2,7 @@ use Rattle.std.proofs.Common.{rules}
 use Rattle.glk_elf.specs.ReaderViews.{symbol_record}
 use Rattle.glk_nm.specs.Lines.{address_field, size_field, words_of, line_of}
 use Rattle.glk_nm.specs.Letters.{letter_of}
-use Rattle.glk_nm.proofs.WritingLemmas.{first_fails, second_fails, third_writes, fails_after}
+use Rattle.glk_pending.proofs.WritingLemmas.{first_fails, second_fails, third_writes, fails_after}
 use Rattle.glk_nm.proofs.line.write_line.Goals as goal
 
 pub returns-in_err-write_address : goal.returns-in_err-write_address

@@ -1,7 +1,7 @@
 use Rattle.std.proofs.Common.{map}
 use Rattle.glk_elf.specs.ReaderViews.{symbol_record}
 use Rattle.glk_nm.specs.Listing.{lines_of}
-use Rattle.glk_nm.proofs.WritingLemmas.{flushed, unflushed}
+use Rattle.glk_pending.proofs.WritingLemmas.{flushed, unflushed}
 use Rattle.glk_nm.proofs.print.print_lines.Goals as goal
 
 pub returns-in_err-write_lines : goal.returns-in_err-write_lines

@@ -1,5 +1,5 @@
 use Rattle.glk_nm.specs.Listing.{lines_of, listed_symbols}
-use Rattle.glk_nm.proofs.WritingLemmas.{flushed, unflushed}
+use Rattle.glk_pending.proofs.WritingLemmas.{flushed, unflushed}
 use Rattle.glk_nm.proofs.print.print_table.Goals as goal
 
 pub returns-in_err-write_table : goal.returns-in_err-write_table

@@ -1,4 +1,4 @@
-use Rattle.glk_nm.proofs.WritingLemmas.{fails_after}
+use Rattle.glk_pending.proofs.WritingLemmas.{fails_after}
 use Rattle.glk_nm.proofs.ListingLemmas.{row_lines, rows_more, rows_fail}
 use Rattle.glk_nm.proofs.print.write_lines.Goals as goal
 

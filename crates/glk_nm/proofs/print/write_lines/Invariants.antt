@@ -1,5 +1,5 @@
 use Rattle.std.proofs.Common.{◌++◌, take}
-use Rattle.glk_nm.specs.Writing.{IsPartlyWritten}
+use Rattle.glk_pending.specs.Writing.{IsPartlyWritten}
 use Rattle.glk_nm.proofs.ListingLemmas.{row_lines}
 use Rattle.glk_nm.proofs.print.write_lines.Given as goal
 

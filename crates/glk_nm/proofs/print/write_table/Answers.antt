@@ -1,7 +1,7 @@
 use Rattle.std.proofs.Common.{rules}
 use Rattle.glk_elf.specs.ReaderViews.{symbol_record}
 use Rattle.glk_nm.specs.Listing.{lines_of, listed_symbols}
-use Rattle.glk_nm.proofs.WritingLemmas.{fails_after}
+use Rattle.glk_pending.proofs.WritingLemmas.{fails_after}
 use Rattle.glk_nm.proofs.ListingLemmas.{table_more, table_fails}
 use Rattle.glk_nm.proofs.print.write_table.Goals as goal
 

@@ -1,6 +1,6 @@
 use Rattle.std.proofs.Common.{◌++◌}
 use Rattle.glk_nm.specs.Listing.{first_symbols}
-use Rattle.glk_nm.specs.Writing.{IsPartlyWritten}
+use Rattle.glk_pending.specs.Writing.{IsPartlyWritten}
 use Rattle.glk_nm.proofs.ListingLemmas.{table_lines}
 use Rattle.glk_nm.proofs.print.write_table.Given as goal
 

@@ -1,7 +1,7 @@
 use Rattle.std.proofs.Common.{List, ℕ, subst, sym}
-use Rattle.glk_nm.specs.Writing.{WritesAfter}
-use Rattle.glk_nm.proofs.WritingLemmas.{long_writes}
-use Rattle.glk_nm.proofs.pending.Pending.write_through.Goals as goal
+use Rattle.glk_pending.specs.Writing.{WritesAfter}
+use Rattle.glk_pending.proofs.WritingLemmas.{long_writes}
+use Rattle.glk_pending.proofs.pending.Pending.write_through.Goals as goal
 
 pub returns-then-text-gt-ROOM : goal.returns-then-text-gt-ROOM
 returns-then-text-gt-ROOM g c =

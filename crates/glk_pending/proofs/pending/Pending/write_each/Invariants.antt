@@ -1,7 +1,7 @@
 use Rattle.std.proofs.Common.{◌++◌, take}
 use Rattle.glk_io.specs.Streams.{joined}
-use Rattle.glk_nm.specs.Writing.{IsPartlyWritten}
-use Rattle.glk_nm.proofs.pending.Pending.write_each.Given as goal
+use Rattle.glk_pending.specs.Writing.{IsPartlyWritten}
+use Rattle.glk_pending.proofs.pending.Pending.write_each.Given as goal
 
 abbrev pub invariant-loop-text : goal.invariant-loop-text
 invariant-loop-text g l =

@@ -1,6 +1,6 @@
 use Rattle.glk_io.specs.Streams.{joined}
-use Rattle.glk_nm.proofs.WritingLemmas.{each_more, each_fails, fails_after}
-use Rattle.glk_nm.proofs.pending.Pending.write_each.Goals as goal
+use Rattle.glk_pending.proofs.WritingLemmas.{each_more, each_fails, fails_after}
+use Rattle.glk_pending.proofs.pending.Pending.write_each.Goals as goal
 
 pub loop-text-preserved : goal.loop-text-preserved
 loop-text-preserved g c =

@@ -2,7 +2,7 @@
 ghost use Rattle.std.specs.Prelude.{◌≡◌, ◌≤◌, ◌+◌, ◌++◌, [], IfOk, OnOk, OnErr, length};
 ghost use Rattle.glk_io.specs.Changes.{SinkAppends, SinkFails};
 ghost use Rattle.glk_io.specs.Streams.{joined};
-ghost use Rattle.glk_nm.specs.Writing.{WritesAfter};
+ghost use Rattle.glk_pending.specs.Writing.{WritesAfter};
 
 use glk_base::OutOfMemory;
 use glk_io::{Failed, Sink, write_all};
@@ -12,15 +12,16 @@ use std::marker::Model;
 // How many bytes may wait.
 const ROOM: usize = 1 << 16;
 
-// Bytes that wait to be written. All its memory is taken when it is made. Contracts see the bytes.
+/// Bytes that wait to be written, at most 64 KiB. All its memory is taken when it is made. Contracts see
+/// the bytes.
 #[derive(Drop)]
-pub(crate) struct Pending {
+pub struct Pending {
     bytes: Vec<u8>,
 }
 
 impl Model for Pending {
     ghost use Rattle.std.specs.Prelude.{List, ℕ, ◌≤◌, vec_len, vec_capacity};
-    ghost use Rattle.glk_nm.specs.declared.pending.TheConstants.{ROOM};
+    ghost use Rattle.glk_pending.specs.declared.pending.TheConstants.{ROOM};
 
     ghost Value = { List ℕ };
 
@@ -33,16 +34,19 @@ impl Model for Pending {
 }
 
 impl Pending {
-    // No bytes, with room for all that may wait.
-    pub(crate) fn new(alloc: Global) -> Result<Pending, OutOfMemory>
+    /// No bytes, with room for all that may wait.
+    pub fn new(alloc: Global) -> Result<Pending, OutOfMemory>
         ensures { IfOk result (λ pending. pending ≡ []) }
     {
         let bytes = Vec::with_capacity(alloc, ROOM)?;
         Ok(Pending { bytes })
     }
 
-    // Writes the bytes that wait.
-    pub(crate) fn flush<O: Sink>(&mut self, out: &mut O) -> Result<(), Failed>
+    /// Writes the bytes that wait. It takes no memory.
+    ///
+    /// # Errors
+    /// `Failed`: a prefix of them was written, and the sink's count of faults rose.
+    pub fn flush<O: Sink>(&mut self, out: &mut O) -> Result<(), Failed>
         ensures none { OnOk result (self.new ≡ []) }
         ensures whole { OnOk result (SinkAppends (O.state out.old) (O.state out.new) self.old) }
         ensures prefix { OnErr result (SinkFails (O.state out.old) (O.state out.new) self.old) }
@@ -73,8 +77,11 @@ impl Pending {
         Ok(())
     }
 
-    // Writes a text, whose end may wait.
-    pub(crate) fn write<O: Sink>(&mut self, text: &[u8], out: &mut O) -> Result<(), Failed>
+    /// Writes a text, whose end may wait. It takes no memory.
+    ///
+    /// # Errors
+    /// `Failed`: a prefix of what waited and the text was written, and the sink's count of faults rose.
+    pub fn write<O: Sink>(&mut self, text: &[u8], out: &mut O) -> Result<(), Failed>
         ensures { WritesAfter (O.state out.old) (O.state out.new) self.old self.new text.now result }
     {
         if text.len() > ROOM - self.bytes.len() {
@@ -84,8 +91,11 @@ impl Pending {
         Ok(())
     }
 
-    // Writes these texts, one after the other; their end may wait.
-    pub(crate) fn write_each<O: Sink>(&mut self, texts: &[&[u8]], out: &mut O) -> Result<(), Failed>
+    /// Writes these texts, one after the other; their end may wait. It takes no memory.
+    ///
+    /// # Errors
+    /// `Failed`: a prefix of what waited and the texts was written, and the sink's count of faults rose.
+    pub fn write_each<O: Sink>(&mut self, texts: &[&[u8]], out: &mut O) -> Result<(), Failed>
         ensures { WritesAfter (O.state out.old) (O.state out.new) self.old self.new
             (joined texts.now) result }
     {

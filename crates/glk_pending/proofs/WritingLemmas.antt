@@ -8,7 +8,7 @@ use Rattle.std.specs.Borrow.{Bor}
 use Rattle.std.proofs.Common.{get_or, take, drop}
 use Rattle.glk_io.specs.Streams.{joined}
 use Rattle.glk_io.proofs.SinkLemmas.{then_appends, then_fails, fails_first, appends_none, fails_anyway, joined_more, joined_split}
-use Rattle.glk_nm.specs.Writing.{IsPartlyWritten, WritesAfter}
+use Rattle.glk_pending.specs.Writing.{IsPartlyWritten, WritesAfter}
 
 -- all of the text is pending
 pub all_pending : (a : SinkState) (text : List ℕ) → IsPartlyWritten a a text text
@@ -111,3 +111,26 @@ flushed a b c before pending text (Err failed) none h whole prefix =
 pub unflushed : {T E : Type 0} (a b : SinkState) (before text : List ℕ) (r : Result T E) (e : E) → IsErrAnd r (λ f. f ≡ e) → before ≡ []
     → SinkFails a b (before ++ text) → WritesText a b text r
 unflushed a b before text r e was none h = fails_anyway a b text r e was (subst (λ (t : List ℕ). SinkFails a b (t ++ text)) none h)
+
+-- A text that is written piece by piece: behind the pending bytes stands what is left of it.
+
+pub left_none : (a b : SinkState) (text pending end : List ℕ) → end ≡ [] → IsPartlyWritten a b text (pending ++ end) → IsPartlyWritten a b text pending
+left_none a b text pending end none h =
+    subst (λ (t : List ℕ). IsPartlyWritten a b text t) (ap (λ t. pending ++ t) none ∙ append-nil pending) h
+
+-- what is left begins with a text that is written next
+module _ (a b c : SinkState) (text pending end xs rest : List ℕ) (is : end ≡ xs ++ rest) (h : IsPartlyWritten a b text (pending ++ end)) where
+  split : text ≡ h.written ++ ((pending ++ xs) ++ rest)
+  split = h.parts ∙ ap (λ t. h.written ++ t) (ap (λ t. pending ++ t) is ∙ sym (append_assoc pending xs rest))
+
+  pub left_more : (after : List ℕ) → IsPartlyWritten b c (pending ++ xs) after → IsPartlyWritten a c text (after ++ rest)
+  left_more after k = record {
+    written = h.written ++ k.written;
+    parts = split ∙ ap (λ t. h.written ++ t) (ap (λ t. t ++ rest) k.parts ∙ append_assoc k.written after rest) ∙ sym (append_assoc h.written k.written (after ++ rest));
+    appends = then_appends a b c h.written k.written h.appends k.appends;
+  }
+
+  pub left_fails : SinkFails b c (pending ++ xs) → SinkFails a c text
+  left_fails f =
+      subst (λ (t : List ℕ). SinkFails a c t) (sym split)
+      (then_fails a b c h.written ((pending ++ xs) ++ rest) h.appends (fails_first b c (pending ++ xs) rest f))
