@@ -1,51 +1,20 @@
 -- There is one answer of a link.
 use Rattle.std.proofs.Common.{◌≡◌, ◌<◌, ◌≤◌, ◌⊎◌, ℕ, List, All, length, Option, Some, None, Ok, Err, inl, inr, refl, sym, ◌∙◌, ap, subst, arith}
 use Rattle.std.specs.Prelude.{Result}
-use Rattle.std.proofs.Math.Path.{fun_ext}
-use Rattle.std.proofs.lemmas.Bool.{cases_order}
 use Rattle.glk_cause.specs.declared.cause.Cause.{Cause}
-use Rattle.glk_base.specs.Lines.{lines, line_number, IsFirstBad}
-use Rattle.glk_io.specs.Contents.{Contents, file_in}
+use Rattle.glk_io.specs.Contents.{Contents}
 use Rattle.glk_cause.specs.Chain.{IsOneAt, IsOne}
-use Rattle.glk_cause.specs.Reading.{bytes_or}
-use Rattle.glk_cause.proofs.ChainLaws.{then_one, demands_one, gives_one, finds_one, function_one, then_given, demands_given, gives_given, finds_given}
-use Rattle.glk_arena.specs.Config.{IsGoodLine}
-use Rattle.glk_arena.proofs.ConfigLemmas.{one_file}
+use Rattle.glk_cause.proofs.ChainLaws.{then_one, demands_one, gives_one, finds_one, then_given, demands_given, gives_given, finds_given}
 use Rattle.glk_arena.specs.World.{Package}
 use Rattle.glk_arena.specs.Waves.{IsOneLoad}
-use Rattle.glk_link.specs.Config.{Listing, config_limit, Parses, bad, good, IsConfigured}
+use Rattle.glk_keys.specs.Programs.{Program}
 use Rattle.glk_link.specs.Plain.{IsPlain}
 use Rattle.glk_link.specs.Reach.{AreKept}
 use Rattle.glk_link.specs.Refusals.{undefined_call}
 use Rattle.glk_link.specs.Built.{IsBuilt}
-use Rattle.glk_link.specs.Passes.{Kept, Linked, IsReach, Reaches, IsUndefined, IsLinkOf, Keeps, LinksPackages, Configures, load_inputs, LoadsPackages, IsOneLink, IsOneFirst, IsOneImage}
+use Rattle.glk_link.specs.Passes.{Kept, Linked, IsReach, Reaches, IsUndefined, IsLinkOf, Keeps, LinksWorld, LinksPackages, load_inputs, program_with, LoadsPackages, IsOneLink, IsOneFirst, IsOneImage}
+use Rattle.glk_link.proofs.ToldLaws.{puts_one, told_one}
 use Rattle.glk_link.proofs.ImageOnce.{kept_once, start_once, image_of_once}
-
--- The configuration.
-
-bad_once : (ls : List (List ℕ)) (Good : ℕ → Type 0) (m n : ℕ) → IsFirstBad ls Good m → IsFirstBad ls Good n → m ≡ n
-bad_once ls Good m n x y =
-    elim (cases_order x.line y.line) [
-      | inl same ↦ x.number_is ∙ ap line_number same ∙ sym y.number_is
-      | inr (inl less) ↦ absurd (x.bad (y.before x.line less))
-      | inr (inr more) ↦ absurd (y.bad (x.before y.line more))
-    ]
-
-parses_one : (path : List ℕ) → IsOne (Parses path)
-parses_one path text x y (bad m f) (bad n g) = let same = bad_once (lines text) (IsGoodLine (lines text)) m n f g in cc
-parses_one path text x y (bad m f) (good l all is) = absurd (f.bad (all f.line f.inside))
-parses_one path text x y (good l all is) (bad n g) = absurd (g.bad (all g.line g.inside))
-parses_one path text x y (good l all is) (good k all1 is1) =
-    let same : l ≡ k = fun_ext (λ named. one_file (lines text) (length (lines text)) named (l named) (k named) (is named) (is1 named)) in
-    ap Ok same
-
-configures_one : (files : Contents) → IsOne (Configures files)
-configures_one files opts = one opts.importcfg
-  where
-    one : (path : Option (List ℕ)) (x y : Result Listing Cause) → IsConfigured files path x → IsConfigured files path y → x ≡ y
-    one None x y h k = h ∙ sym k
-    one (Some path) x y h k =
-        then_one path (function_one (λ p. bytes_or p config_limit config_limit (file_in files p)) path) (λ text read. parses_one path text) x y h k
 
 -- The entry, and what is kept.
 
@@ -108,21 +77,29 @@ are_kept_all entry world k h =
     let P : Kept → Type 0 = λ n. AreKept n.world entry n.kept in
     subst P (finds_given reached.0 k reached.2) (are_kept entry plain.0 reached.0 reached.1)
 
-packages_one : (entry : List ℕ) → IsOne (LinksPackages entry)
-packages_one entry world =
-    then_one world (then_one world (demands_one world) (λ w few. demands_one w)) (λ v within.
-    then_one v (keeps_one entry v) (λ k kept.
+world_one : (entry : List ℕ) → IsOne (LinksWorld entry)
+world_one entry world =
+    then_one world (keeps_one entry world) (λ k kept.
     then_one k (demands_one k) (λ m placed.
     let P : Kept → Type 0 = λ n. AreKept n.world entry n.kept in
-    gives_one m (link_once entry m (subst P (demands_given k m placed).0 (are_kept_all entry v k kept)) (demands_given k m placed).1))))
+    gives_one m (link_once entry m (subst P (demands_given k m placed).0 (are_kept_all entry world k kept)) (demands_given k m placed).1)))
+
+some_cause : (a b : Cause) (found : Option Cause) → found ≡ Some a → found ≡ Some b → a ≡ b
+some_cause a b found e f = let both : Some a ≡ Some b = sym e ∙ f in cc
+
+packages_one : IsOne LinksPackages
+packages_one l =
+    then_one l (then_one l (demands_one l) (λ m few. demands_one m)) (λ m within.
+    then_one m (finds_one m (λ a b e f. some_cause a b _ e f)) (λ n merged.
+    then_one n (demands_one n) (λ o known. world_one o.entry o.world)))
 
 loads_packages_one : IsOneLoad → (files : Contents) → IsOne (LoadsPackages files)
 loads_packages_one one files opts =
     then_one opts (demands_one opts) (λ o supported.
-    then_one o (configures_one files o) (λ listed configured. one (load_inputs opts listed) files))
+    then_one o (told_one files o) (λ told is_told. puts_one program_with told (one (load_inputs told) files)))
 
 pub one_link : IsOneLoad → IsOneLink
-one_link one files opts = then_one opts (loads_packages_one one files opts) (λ world loaded. packages_one opts.entry world)
+one_link one files opts = then_one opts (loads_packages_one one files opts) (λ l loaded. packages_one l)
 
 pub one_first : IsOneLoad → IsOneFirst
 one_first one files opts None None x y = refl

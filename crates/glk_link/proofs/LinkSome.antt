@@ -1,6 +1,7 @@
 -- There is an answer of each link: an image, or a first refusal.
-use Rattle.std.proofs.Common.{◌≡◌, ◌<◌, ◌≤◌, ◌⊎◌, ℕ, List, All, Option, Some, None, Ok, Err, inl, inr, refl, sym, ◌∙◌, subst, arith}
-use Rattle.std.specs.Prelude.{Result, IsSome, is_some}
+use Rattle.std.proofs.Common.{◌≡◌, ◌<◌, ◌≤◌, ◌⊎◌, ℕ, List, All, length, Option, Some, None, Ok, Err, inl, inr, refl, sym, ap, ◌∙◌, subst, arith}
+use Rattle.std.specs.Prelude.{Result}
+use Rattle.std.specs.Option.{option_map}
 use Rattle.std.specs.List.{Contains}
 use Rattle.glk_cause.specs.declared.cause.Cause.{Cause}
 use Rattle.glk_cause.specs.Chain.{IsSomeAt}
@@ -13,15 +14,23 @@ use Rattle.glk_io.specs.Contents.{Contents}
 use Rattle.glk_link.specs.declared.options.LinkOptions.{LinkOptions}
 use Rattle.glk_link.specs.Options.{AsksUnbuilt}
 use Rattle.glk_link.specs.Names.{reserved_names}
-use Rattle.glk_link.specs.World.{AreObjects, byte_count, rows, row_limit, IsDefinition, reloc_count}
+use Rattle.glk_obj.specs.Numbers.{index_of, kind_of, standard_number}
+use Rattle.glk_obj.specs.declared.kinds.RelocKind.{RelocKind}
+use Rattle.glk_obj.specs.declared.kinds.RelocKind.TheVariants.{Call, PcRel}
+use Rattle.glk_obj.proofs.KindNumbers.{index_injective}
+use Rattle.glk_keys.specs.Clashes.{first_clash}
+use Rattle.glk_keys.specs.Rows.{row_count, row_limit}
+use Rattle.glk_keys.specs.Programs.{Program}
+use Rattle.glk_link.specs.Merges.{clash_refusal, IsKnownConfig}
+use Rattle.glk_link.specs.World.{AreObjects, byte_count, rows, IsDefinition, reloc_count}
 use Rattle.glk_link.specs.Plans.{linked_bytes, IsFitting, AreChosen}
 use Rattle.glk_link.specs.Reach.{IsEntry, AreKept, Misses}
-use Rattle.glk_link.specs.Refusals.{rows_taken, IsFirstMiss, undefined_call}
+use Rattle.glk_link.specs.Refusals.{IsFirstMiss, undefined_call}
 use Rattle.glk_link.specs.Built.{IsBuilt}
 use Rattle.glk_link.specs.Image.{IsStart}
-use Rattle.glk_link.specs.Passes.{Kept, Linked, IsWithinLimits, IsReach, Reaches, IsUndefined, IsLinkOf, Keeps, LinksPackages, LoadsPackages, IsLink, FirstRefusal, load_inputs, IsSomeFirst}
+use Rattle.glk_link.specs.Passes.{Kept, Linked, IsWithinLimits, IsMerged, HasKnownConfig, IsReach, Reaches, IsUndefined, IsLinkOf, Keeps, LinksWorld, LinksPackages, LoadsPackages, IsLink, FirstRefusal, load_inputs, program_with, IsSomeFirst}
 use Rattle.std.proofs.lemmas.Bool.{cases_order}
-use Rattle.glk_package.proofs.Decided.{IsDecided, one_of, negated, at_most, is_true, same_bytes}
+use Rattle.glk_package.proofs.Decided.{IsDecided, all_of, negated, at_most, if_same, same_bytes}
 use Rattle.glk_link.proofs.Decided.{both, equal, IsLeast, first_below, all_in, contains}
 use Rattle.glk_link.proofs.PlainDecided.{has_entry, plain}
 use Rattle.glk_link.proofs.CallDecided.{misses, is_built}
@@ -30,26 +39,60 @@ use Rattle.glk_link.proofs.Search.{reached_definition}
 use Rattle.glk_link.proofs.KeptSome.{kept_some, start_some}
 use Rattle.glk_link.proofs.ImageSome.{image_some}
 use Rattle.glk_link.proofs.WorldSteps.{fitting}
-use Rattle.glk_link.proofs.ConfigSome.{configures_some}
+use Rattle.glk_link.proofs.ConfigSome.{puts_some, told_some}
+use Rattle.glk_link.proofs.ToldLaws.{puts_given}
 use Rattle.glk_link.proofs.LoadedWhole.{load_whole}
 
 -- The limits.
 
-within_some : (world : List Package) → IsSomeAt IsWithinLimits world
-within_some world =
-    then_some world (demands_some world (at_most (rows_taken world) row_limit)) (λ w few. demands_some w (at_most (file_bytes w) linked_bytes))
+within_some : (l : Program) → IsSomeAt IsWithinLimits l
+within_some l =
+    then_some l (demands_some l (at_most (row_count l) row_limit)) (λ m few. demands_some m (at_most (file_bytes m.world) linked_bytes))
 
--- a world within the limits is what it was, and short
-record IsWithin (world w : List Package) : Type 0 where
-  same : world ≡ w
-  short : file_bytes w ≤ linked_bytes
+-- what passes the limits is what it was, and short
+record IsWithin (l m : Program) : Type 0 where
+  same : l ≡ m
+  short : file_bytes m.world ≤ linked_bytes
 
-are_within : (world w : List Package) → IsWithinLimits world (Ok w) → IsWithin world w
-are_within world w h =
-    let t = then_given world w h in
-    let rows_few = demands_given world t.0 t.1 in
-    let small = demands_given t.0 w t.2 in
+are_within : (l m : Program) → IsWithinLimits l (Ok m) → IsWithin l m
+are_within l m h =
+    let t = then_given l m h in
+    let rows_few = demands_given l t.0 t.1 in
+    let small = demands_given t.0 m t.2 in
     record { same = rows_few.0 ∙ small.0; short = small.1 }
+
+-- Clashes, and the configuration.
+
+merged_some : (l : Program) → IsSomeAt IsMerged l
+merged_some l = finds_some l (by (option_map (clash_refusal l) (first_clash l)))
+  where
+    by : (found : Option Cause) → ((refusal : Cause) × (found ≡ Some refusal)) ⊎ ((refusal : Cause) → found ≡ Some refusal → ⊥)
+    by (Some refusal) = inl (refusal, refl)
+    by None = inr (λ refusal e. cc)
+
+same_kind : (a : Option RelocKind) (kind : RelocKind) → ((k : RelocKind) → IsDecided (k ≡ kind)) → IsDecided (a ≡ Some kind)
+same_kind None kind each = inr (λ e. cc)
+same_kind (Some k) kind each = by (each k)
+  where
+    by : IsDecided (k ≡ kind) → IsDecided ((let o : Option RelocKind = Some k in o) ≡ Some kind)
+    by (inl e) = inl (ap Some e)
+    by (inr n) = inr (λ e. n (same k kind e))
+      where
+        same : (x y : RelocKind) → (let o : Option RelocKind = Some x in o) ≡ Some y → x ≡ y
+        same x y is = cc
+
+kinds_equal : (a b : RelocKind) → IsDecided (a ≡ b)
+kinds_equal a b = if_same (index_of a ≡ index_of b) (a ≡ b) (index_injective a b) (ap index_of) (equal (index_of a) (index_of b))
+
+config_some : (l : Program) → IsSomeAt HasKnownConfig l
+config_some l =
+    let A : Type 0 = kind_of l.numbers (standard_number Call) ≡ Some Call in
+    let B : Type 0 = kind_of l.numbers (standard_number PcRel) ≡ Some PcRel in
+    let C : Type 0 = length l.builtins ≡ 0 in
+    demands_some l (if_same (A × (B × C)) (IsKnownConfig l)
+    (λ h. record { call = h.0; pc_relative = h.1.0; no_builtin = h.1.1 }) (λ h. (h.call, (h.pc_relative, h.no_builtin)))
+    (all_of A (B × C) (same_kind (kind_of l.numbers (standard_number Call)) Call (λ k. kinds_equal k Call))
+    (all_of B C (same_kind (kind_of l.numbers (standard_number PcRel)) PcRel (λ k. kinds_equal k PcRel)) (equal (length l.builtins) 0))))
 
 -- What is kept.
 
@@ -180,40 +223,48 @@ kept_of_keeps entry world k objects small h =
     let reached = then_given is_plain.0 k is_plain.2 in
     subst (λ (n : Kept). IsKeptOf entry n) (finds_given reached.0 k reached.2) (kept_of_world entry is_plain.0 reached.0 are few reached.1)
 
-pub packages_some : (entry : List ℕ) (world : List Package) → IsFitting world → IsSomeAt (LinksPackages entry) world
-packages_some entry world fits =
-    then_some world (within_some world) (λ v within.
-    let limits = are_within world v within in
-    let objects = subst (λ (w : List Package). AreObjects (objects_of w)) limits.same fits.objects in
-    let fit = subst (λ (w : List Package). byte_count (objects_of w) ≤ file_bytes w) limits.same fits.fit in
-    let small : byte_count (objects_of v) ≤ linked_bytes = omega (arith, fit, limits.short) in
-    then_some v (keeps_some entry v objects small) (λ k keeps.
+world_some : (entry : List ℕ) (world : List Package) → AreObjects (objects_of world) → byte_count (objects_of world) ≤ linked_bytes → IsSomeAt (LinksWorld entry) world
+world_some entry world objects small =
+    then_some world (keeps_some entry world objects small) (λ k keeps.
     then_some k (demands_some k (all_in (IsBuilt k.world) (is_built k.world) k.kept)) (λ m placed.
-    let is = subst (λ (n : Kept). IsKeptOf entry n) (demands_given k m placed).0 (kept_of_keeps entry v k objects small keeps) in
-    gives_some m (link_of entry m is (demands_given k m placed).1))))
+    let is = subst (λ (n : Kept). IsKeptOf entry n) (demands_given k m placed).0 (kept_of_keeps entry world k objects small keeps) in
+    gives_some m (link_of entry m is (demands_given k m placed).1)))
+
+pub packages_some : (l : Program) → IsFitting l.world → IsSomeAt LinksPackages l
+packages_some l fits =
+    then_some l (within_some l) (λ m within.
+    then_some m (merged_some m) (λ n merged.
+    then_some n (config_some n) (λ o known.
+    let limits = are_within l m within in
+    let later : m ≡ o = finds_given m n merged ∙ (demands_given n o known).0 in
+    let same : l ≡ o = limits.same ∙ later in
+    let objects = subst (λ (k : Program). AreObjects (objects_of k.world)) same fits.objects in
+    let fit = subst (λ (k : Program). byte_count (objects_of k.world) ≤ file_bytes k.world) same fits.fit in
+    let short = subst (λ (k : Program). file_bytes k.world ≤ linked_bytes) later limits.short in
+    let small : byte_count (objects_of o.world) ≤ linked_bytes = omega (arith, fit, short) in
+    world_some o.entry o.world objects small)))
 
 -- The passes over options and files.
 
 supported : (opts : LinkOptions) → IsDecided (AsksUnbuilt opts)
-supported opts =
-    one_of (IsSome opts.numbers ⊎ IsSome opts.builtin) (Contains reserved_names opts.entry)
-    (one_of (IsSome opts.numbers) (IsSome opts.builtin) (is_true (is_some opts.numbers)) (is_true (is_some opts.builtin)))
-    (contains same_bytes reserved_names opts.entry)
+supported opts = contains same_bytes reserved_names opts.entry
 
 loads_some : IsSomeConfig → IsSomeLoad → (files : Contents) (opts : LinkOptions) → IsSomeAt (LoadsPackages files) opts
 loads_some config some files opts =
     then_some opts (demands_some opts (negated (AsksUnbuilt opts) (supported opts))) (λ o built.
-    then_some o (configures_some config files o) (λ listed configured. some (load_inputs opts listed) files))
+    then_some o (told_some config files o) (λ told is_told. puts_some program_with told (some (load_inputs told) files)))
 
-loaded_whole : (files : Contents) (opts : LinkOptions) (world : List Package) → LoadsPackages files opts (Ok world) → All IsWhole world
-loaded_whole files opts world h =
-    let built = then_given opts world h in
-    let configured = then_given built.0 world built.2 in
-    load_whole (load_inputs opts configured.0) files world configured.2
+loaded_whole : (files : Contents) (opts : LinkOptions) (l : Program) → LoadsPackages files opts (Ok l) → All IsWhole l.world
+loaded_whole files opts l h =
+    let built = then_given opts l h in
+    let told = then_given built.0 l built.2 in
+    let loaded = puts_given {put = program_with} told.0 l told.2 in
+    let same : l.world ≡ loaded.given = ap (λ (k : Program). k.world) loaded.is in
+    subst (λ (w : List Package). All IsWhole w) (sym same) (load_whole (load_inputs told.0) files loaded.given loaded.step)
 
 pub some_link : IsSomeConfig → IsSomeLoad → (files : Contents) (opts : LinkOptions) → (answer : Result Linked Cause) × IsLink files opts answer
 some_link config some files opts =
-    then_some opts (loads_some config some files opts) (λ world loads. packages_some opts.entry world (fitting world (loaded_whole files opts world loads)))
+    then_some opts (loads_some config some files opts) (λ l loads. packages_some l (fitting l.world (loaded_whole files opts l loads)))
 
 pub some_first : IsSomeConfig → IsSomeLoad → IsSomeFirst
 some_first config some files opts = first (some_link config some files opts)

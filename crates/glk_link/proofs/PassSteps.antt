@@ -7,7 +7,8 @@ use Rattle.glk_base.specs.declared.fault.Fault.TheVariants as fault
 use Rattle.glk_cause.specs.Chain.{Then, Answers}
 use Rattle.glk_cause.proofs.ChainLaws.{went_on}
 use Rattle.glk_arena.specs.World.{Package}
-use Rattle.glk_link.specs.Passes.{Kept, Linked, IsWithinLimits, HasPlainObjects, Reaches, FindsCallees, HasPlacedSymbols, Images, Keeps, LinksPackages}
+use Rattle.glk_keys.specs.Programs.{Program}
+use Rattle.glk_link.specs.Passes.{Kept, Linked, IsWithinLimits, IsMerged, HasKnownConfig, HasPlainObjects, Reaches, FindsCallees, HasPlacedSymbols, Images, Keeps, LinksWorld, LinksPackages}
 use Rattle.glk_link.specs.Outputs.{kept_of, linked_of}
 use Rattle.glk_link.specs.declared.link_packages.Reached.{Reached}
 use Rattle.glk_link.specs.declared.link_packages.Output.{Output}
@@ -21,11 +22,17 @@ module _ {B C D : Type 0} (S : Result B Cause → Type 0) (v : C → B) (w : D �
 abbrev pub FromSymbols : Kept → Result Linked Cause → Type 0
 FromSymbols = Then HasPlacedSymbols Images
 
-abbrev pub FromKept : List ℕ → List Package → Result Linked Cause → Type 0
-FromKept entry = Then (Keeps entry) FromSymbols
-
 abbrev pub FromReach : List ℕ → List Package → Result Kept Cause → Type 0
 FromReach entry = Then (Reaches entry) FindsCallees
+
+abbrev pub FromWorld : Program → Result Linked Cause → Type 0
+FromWorld l answer = LinksWorld l.entry l.world answer
+
+abbrev pub FromConfig : Program → Result Linked Cause → Type 0
+FromConfig = Then HasKnownConfig FromWorld
+
+abbrev pub FromClashes : Program → Result Linked Cause → Type 0
+FromClashes = Then IsMerged FromConfig
 
 -- The passes up to what is kept.
 
@@ -36,15 +43,24 @@ module _ (entry : List ℕ) (world : List Package) (plain : HasPlainObjects worl
   pub on_reached : (k : Kept) → Reaches entry world (Ok k) → (r : Result Reached (Fault Cause)) → Answers (FindsCallees k) (kept_of world) r → Answers (Keeps entry world) (kept_of world) r
   on_reached k reached r h = on_objects r (went_on (Reaches entry) FindsCallees world (kept_of world) k r reached h)
 
--- The passes over the packages.
+-- The passes over a world.
 
-module _ (entry : List ℕ) (loaded world : List Package) (limits : IsWithinLimits loaded (Ok world)) where
-  pub on_limits : (r : Result Output (Fault Cause)) → Answers (FromKept entry world) (linked_of loaded) r → Answers (LinksPackages entry loaded) (linked_of loaded) r
-  on_limits r h = went_on IsWithinLimits (FromKept entry) loaded (linked_of loaded) world r limits h
+module _ (entry : List ℕ) (world : List Package) (k : Kept) (keeps : Keeps entry world (Ok k)) where
+  pub on_kept : (r : Result Output (Fault Cause)) → Answers (FromSymbols k) (linked_of world) r → Answers (LinksWorld entry world) (linked_of world) r
+  on_kept r h = went_on (Keeps entry) FromSymbols world (linked_of world) k r keeps h
 
-  module _ (k : Kept) (keeps : Keeps entry world (Ok k)) where
-    pub on_kept : (r : Result Output (Fault Cause)) → Answers (FromSymbols k) (linked_of loaded) r → Answers (LinksPackages entry loaded) (linked_of loaded) r
-    on_kept r h = on_limits r (went_on (Keeps entry) FromSymbols world (linked_of loaded) k r keeps h)
+  pub on_symbols : HasPlacedSymbols k (Ok k) → (r : Result Output (Fault Cause)) → Answers (Images k) (linked_of world) r → Answers (LinksWorld entry world) (linked_of world) r
+  on_symbols symbols r h = on_kept r (went_on HasPlacedSymbols Images k (linked_of world) k r symbols h)
 
-    pub on_symbols : HasPlacedSymbols k (Ok k) → (r : Result Output (Fault Cause)) → Answers (Images k) (linked_of loaded) r → Answers (LinksPackages entry loaded) (linked_of loaded) r
-    on_symbols symbols r h = on_kept r (went_on HasPlacedSymbols Images k (linked_of loaded) k r symbols h)
+-- The passes over what is loaded.
+
+module _ (l : Program) (limits : IsWithinLimits l (Ok l)) where
+  pub on_limits : (r : Result Output (Fault Cause)) → Answers (FromClashes l) (linked_of l.world) r → Answers (LinksPackages l) (linked_of l.world) r
+  on_limits r h = went_on IsWithinLimits FromClashes l (linked_of l.world) l r limits h
+
+  module _ (merged : IsMerged l (Ok l)) where
+    pub on_merged : (r : Result Output (Fault Cause)) → Answers (FromConfig l) (linked_of l.world) r → Answers (LinksPackages l) (linked_of l.world) r
+    on_merged r h = on_limits r (went_on IsMerged FromConfig l (linked_of l.world) l r merged h)
+
+    pub on_config : HasKnownConfig l (Ok l) → (r : Result Output (Fault Cause)) → Answers (FromWorld l) (linked_of l.world) r → Answers (LinksPackages l) (linked_of l.world) r
+    on_config known r h = on_merged r (went_on HasKnownConfig FromWorld l (linked_of l.world) l r known h)

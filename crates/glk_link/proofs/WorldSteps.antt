@@ -10,9 +10,9 @@ use Rattle.std.proofs.lemmas.List.Concat.{flat_map-cons}
 use Rattle.glk_arena.specs.World.{Package, objects_of, file_bytes, symbol_count}
 use Rattle.glk_base.specs.Limits.{file_limit}
 use Rattle.glk_arena.specs.Stored.{IsWhole}
-use Rattle.glk_link.specs.World.{AreObjects, byte_count, rows, row_limit, IsDefinition}
+use Rattle.glk_link.specs.World.{AreObjects, byte_count, rows, IsDefinition}
 use Rattle.glk_link.specs.Reach.{Misses}
-use Rattle.glk_link.specs.Refusals.{rows_taken, IsFirstMiss}
+use Rattle.glk_link.specs.Refusals.{IsFirstMiss}
 use Rattle.glk_link.specs.Plans.{IsFitting}
 use Rattle.glk_link.proofs.RowLaws.{rows_within}
 use Rattle.glk_link.proofs.PlaceSteps.{place_below}
@@ -58,9 +58,6 @@ fitting (p ∷ later) whole =
 -- rows take few bytes each
 pub rows_low : (world : List Package) → IsFitting world → file_bytes world ≤ file_limit → symbol_count world ≤ 2 ^ 30
 rows_low world fits small = omega (arith, rows_within (objects_of world) fits.objects, fits.fit, small)
-
-pub rows_few : (world : List Package) → rows_taken world ≤ row_limit → rows (objects_of world) ≤ row_limit
-rows_few world few = omega (arith, few)
 
 -- no more definitions are kept than there are rows
 pub kept_few : (world : List Package) (kept : List ℕ) → AllPairs (λ i j. i < j) kept → All (IsDefinition world) kept → length kept ≤ rows (objects_of world)

@@ -15,6 +15,7 @@ pub mod Image
 pub mod Refusals
 pub mod Options
 pub mod Config
+pub mod Merges
 pub mod Passes
 pub mod Outputs
 pub mod Answers

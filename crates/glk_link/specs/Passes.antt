@@ -9,13 +9,16 @@ use Rattle.glk_io.specs.Contents.{Contents}
 use Rattle.glk_cause.specs.Chain.{Then, Demands, Gives, Finds}
 use Rattle.glk_arena.specs.World.{Package, objects_of, file_bytes}
 use Rattle.glk_arena.specs.Waves.{LoadInputs, IsLoad}
+use Rattle.glk_keys.specs.Programs.{Program, program_of}
+use Rattle.glk_keys.specs.Rows.{row_count, row_limit}
 use Rattle.glk_link.specs.Options.{AsksUnbuilt}
-use Rattle.glk_link.specs.Config.{Listing, IsConfigured}
-use Rattle.glk_link.specs.World.{row_limit, definition_count}
+use Rattle.glk_link.specs.Config.{Told, Puts, IsTold}
+use Rattle.glk_link.specs.Merges.{IsClash, IsKnownConfig}
+use Rattle.glk_link.specs.World.{definition_count}
 use Rattle.glk_link.specs.Plain.{IsPlain}
 use Rattle.glk_link.specs.Plans.{linked_bytes}
 use Rattle.glk_link.specs.Reach.{IsEntry, AreKept}
-use Rattle.glk_link.specs.Refusals.{rows_taken, IsFirstMiss, undefined_call}
+use Rattle.glk_link.specs.Refusals.{IsFirstMiss, undefined_call}
 use Rattle.glk_link.specs.Built.{IsBuilt}
 use Rattle.glk_link.specs.Image.{IsStart, IsImageOf}
 use Rattle.glk_link.specs.declared.options.LinkOptions.{LinkOptions}
@@ -37,14 +40,21 @@ pub record Linked : Type 0 where
 
 -- The passes over the packages that are loaded.
 
-abbrev pub HasFewRows : List Package → Result (List Package) Cause → Type 0
-HasFewRows = Demands (λ world. rows_taken world ≤ row_limit) (λ world. cause.TooLarge limit.Rows (rows_taken world))
+abbrev pub HasFewRows : Program → Result Program Cause → Type 0
+HasFewRows = Demands (λ p. row_count p ≤ row_limit) (λ p. cause.TooLarge limit.Rows (row_count p))
 
-abbrev pub HasSmallFiles : List Package → Result (List Package) Cause → Type 0
-HasSmallFiles = Demands (λ world. file_bytes world ≤ linked_bytes) (λ world. cause.NotYet form.Size)
+abbrev pub HasSmallFiles : Program → Result Program Cause → Type 0
+HasSmallFiles = Demands (λ p. file_bytes p.world ≤ linked_bytes) (λ p. cause.NotYet form.Size)
 
-abbrev pub IsWithinLimits : List Package → Result (List Package) Cause → Type 0
+abbrev pub IsWithinLimits : Program → Result Program Cause → Type 0
 IsWithinLimits = Then HasFewRows HasSmallFiles
+
+-- no definitions clash
+abbrev pub IsMerged : Program → Result Program Cause → Type 0
+IsMerged = Finds IsClash
+
+abbrev pub HasKnownConfig : Program → Result Program Cause → Type 0
+HasKnownConfig = Demands IsKnownConfig (λ p. cause.NotYet form.Object)
 
 abbrev pub HasPlainObjects : List Package → Result (List Package) Cause → Type 0
 HasPlainObjects = Demands IsPlain (λ world. cause.NotYet form.Object)
@@ -84,30 +94,34 @@ Images = Gives IsLinkOf
 abbrev pub Keeps : List ℕ → List Package → Result Kept Cause → Type 0
 Keeps entry = Then HasPlainObjects (Then (Reaches entry) FindsCallees)
 
-abbrev pub LinksPackages : List ℕ → List Package → Result Linked Cause → Type 0
-LinksPackages entry = Then IsWithinLimits (Then (Keeps entry) (Then HasPlacedSymbols Images))
+-- what is linked of packages within the limits from the entry on, or the first refusal on the way
+abbrev pub LinksWorld : List ℕ → List Package → Result Linked Cause → Type 0
+LinksWorld entry = Then (Keeps entry) (Then HasPlacedSymbols Images)
+
+abbrev pub LinksPackages : Program → Result Linked Cause → Type 0
+LinksPackages = Then IsWithinLimits (Then IsMerged (Then HasKnownConfig (λ p. LinksWorld p.entry p.world)))
 
 -- The passes over options and files.
 
 abbrev pub IsSupported : LinkOptions → Result LinkOptions Cause → Type 0
 IsSupported = Demands (λ opts. AsksUnbuilt opts → ⊥) (λ opts. cause.NotYet form.Flag)
 
-abbrev pub Configures : Contents → LinkOptions → Result Listing Cause → Type 0
-Configures files opts = IsConfigured files opts.importcfg
+abbrev pub load_inputs : Told → LoadInputs
+load_inputs told = record { main = told.opts.main; listed = told.listed }
 
-abbrev pub load_inputs : LinkOptions → Listing → LoadInputs
-load_inputs opts listed = record { main = opts.main; listed = listed }
+abbrev pub program_with : Told → List Package → Program
+program_with told world = program_of world told.opts.entry told.builtins told.numbers
 
-abbrev pub Loads : Contents → LinkOptions → Listing → Result (List Package) Cause → Type 0
-Loads files opts listed = IsLoad (load_inputs opts listed) files
+abbrev pub Loads : Contents → Told → Result Program Cause → Type 0
+Loads files = Puts (λ told. IsLoad (load_inputs told) files) program_with
 
--- what is loaded: the packages of a link, or the first refusal on the way
-abbrev pub LoadsPackages : Contents → LinkOptions → Result (List Package) Cause → Type 0
-LoadsPackages files opts = Then IsSupported (Then (Configures files) (Loads files opts)) opts
+-- what is loaded: what is told, and the packages of a link, or the first refusal on the way
+abbrev pub LoadsPackages : Contents → LinkOptions → Result Program Cause → Type 0
+LoadsPackages files opts = Then IsSupported (Then (IsTold files) (Loads files)) opts
 
 -- what a link comes to: what is linked, or the first refusal
 abbrev pub IsLink : Contents → LinkOptions → Result Linked Cause → Type 0
-IsLink files opts = Then (LoadsPackages files) (LinksPackages opts.entry) opts
+IsLink files opts = Then (LoadsPackages files) LinksPackages opts
 
 -- the first refusal, or none; and the image
 abbrev pub FirstRefusal : Contents → LinkOptions → Option Cause → Type 0

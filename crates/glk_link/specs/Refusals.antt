@@ -1,20 +1,11 @@
--- Limits of a link, and the first call of what is missing.
-use Rattle.std.specs.Prelude.{◌≡◌, ◌⊎◌, ℕ, ◌+◌, ◌<◌, ◌≤◌, List}
+-- The first call of what is missing.
+use Rattle.std.specs.Prelude.{◌≡◌, ◌⊎◌, ℕ, ◌<◌, ◌≤◌, List}
 use Rattle.glk_cause.specs.declared.cause.Cause.{Cause}
 use Rattle.glk_cause.specs.declared.cause.Cause.TheVariants as cause
-use Rattle.glk_arena.specs.World.{Package, symbol_count}
+use Rattle.glk_arena.specs.World.{Package}
 use Rattle.glk_link.specs.World.{symbol_at, reloc_at}
 use Rattle.glk_link.specs.Targets.{target_name}
 use Rattle.glk_link.specs.Reach.{Misses}
-
--- the linker's own rows: the entry, `runtime.unreachableMethod` and `runtime.mapinitnoop` in two ABIs each, two lists of
--- initialization, and 27 names that it makes
-abbrev pub own_rows : ℕ
-own_rows = 35
-
--- the number of rows of a link: those of the objects, and its own
-abbrev pub rows_taken : List Package → ℕ
-rows_taken world = symbol_count world + own_rows
 
 -- of the calls of these definitions to what is missing this is the first: that of least row, and in it the first
 pub record IsFirstMiss (world : List Package) (kept : ℕ → Type 0) (i k : ℕ) : Type 0 where

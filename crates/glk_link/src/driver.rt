@@ -3,10 +3,11 @@ ghost use Rattle.std.specs.Prelude.{◌≡◌, ◌≤◌};
 ghost use Rattle.glk_link.specs.Options.{AsksUnbuilt};
 ghost use Rattle.glk_link.specs.Answers.{IsUnsupported, PackagesAnswer, LinkAnswer, AnswersUnlessIoFails};
 
+use crate::config_files::read_config_files;
+use crate::inputs::Inputs;
 use crate::link_packages::link_packages;
-use crate::options::{LinkOptions, Report};
-use crate::read_config::{asks_unbuilt, read_config};
-use glk_arena::{Loaded, load_waves, one_load};
+use crate::options::{LinkOptions, Report, asks_unbuilt};
+use glk_arena::{load_waves, one_load};
 use glk_base::Fault;
 use glk_cause::{Cause, Form, write_named};
 use glk_io::{Files, Gate};
@@ -18,7 +19,8 @@ use std::thread::Threads;
 /// that are kept, and the length of the image.
 ///
 /// All memory but the files' own is taken before the write. The threads of `rt` check the objects that
-/// are loaded, and one thread does the rest of the work, so far: the gate is not used.
+/// are loaded; definitions are merged by workers side by side, which pass the gate; one thread does
+/// the rest of the work, so far.
 ///
 /// # Errors
 /// The first refusal of the passes, in their order: then no file is changed, and no count rose.
@@ -36,16 +38,15 @@ pub fn link<R: Threads + Sync, F: Files, G: Gate>(
     ensures means { LinkAnswer (F.state files.old) (F.state files.new) opts.now result }
     ensures due { AnswersUnlessIoFails (F.state files.old) (F.state files.new) opts.now result }
 {
-    let _ = gate;
     one_load();
     if asks_unbuilt(opts) {
         return Err(Fault::Bad(Cause::NotYet { form: Form::Flag }));
     }
-    link_files(rt, alloc, opts, files)
+    link_files(rt, alloc, opts, files, gate)
 }
 
-/// Loads the packages of a link: the file that the options name, and what it needs of the packages
-/// that the configuration lists, in load order. No file is changed.
+/// Loads what is linked: the configuration files, and then the file that the options name and what it
+/// needs of the packages that the configuration lists, in load order. No file is changed.
 ///
 /// # Errors
 /// The first refusal of the passes up to there, in their order: then no count rose. `ReadFault`, with
@@ -55,7 +56,7 @@ pub fn load<R: Threads + Sync, F: Files>(
     alloc: Global,
     opts: &LinkOptions,
     files: &mut F,
-) -> Result<Loaded, Fault<Cause>>
+) -> Result<Inputs, Fault<Cause>>
     ensures { PackagesAnswer (F.state files.old) (F.state files.new) opts.now result }
 {
     if asks_unbuilt(opts) {
@@ -64,33 +65,40 @@ pub fn load<R: Threads + Sync, F: Files>(
     load_packages(rt, alloc, opts, files)
 }
 
-// The packages of a link whose options are supported.
+// What is linked, where the options are supported.
 fn load_packages<R: Threads + Sync, F: Files>(
     rt: &R,
     alloc: Global,
     opts: &LinkOptions,
     files: &mut F,
-) -> Result<Loaded, Fault<Cause>>
+) -> Result<Inputs, Fault<Cause>>
     requires { AsksUnbuilt opts.now → ⊥ }
     ensures { PackagesAnswer (F.state files.old) (F.state files.new) opts.now result }
 {
-    let config = read_config(alloc, opts, files)?;
-    let loaded = load_waves(rt, alloc, opts.main.as_str(), &config, files)?;
-    Ok(loaded)
+    let told = read_config_files(alloc, opts, files)?;
+    let loaded = load_waves(rt, alloc, opts.main.as_str(), &told.config, files)?;
+    Ok(Inputs {
+        loaded,
+        builtins: told.builtins,
+        numbers: told.numbers,
+    })
 }
 
 // The passes of a link whose options are supported.
-fn link_files<R: Threads + Sync, F: Files>(
+fn link_files<R: Threads + Sync, F: Files, G: Gate>(
     rt: &R,
     alloc: Global,
     opts: &LinkOptions,
     files: &mut F,
+    gate: &G,
 ) -> Result<Report, Fault<Cause>>
-    requires { AsksUnbuilt opts.now → ⊥ }
+    requires built { AsksUnbuilt opts.now → ⊥ }
+    requires workers { (1 ≤ opts.now.workers) × (opts.now.workers ≤ 64) }
     ensures { LinkAnswer (F.state files.old) (F.state files.new) opts.now result }
 {
-    let loaded = load_packages(rt, alloc, opts, files)?;
-    let output = link_packages(alloc, &loaded, opts.entry.as_str().as_bytes())?;
+    let inputs = load_packages(rt, alloc, opts, files)?;
+    let entry = opts.entry.as_str().as_bytes();
+    let output = link_packages(rt, alloc, &inputs, entry, opts.workers, gate)?;
     write_named(alloc, opts.out.as_str(), &output.image, files)?;
     Ok(output.report)
 }

@@ -1,21 +1,25 @@
 // The passes over the packages that are loaded.
-ghost use Rattle.std.specs.Prelude.{◌≡◌, ◌≤◌, ◌<◌, ℕ, [], All, Contains, IfOk};
+ghost use Rattle.std.specs.Prelude.{◌≡◌, ◌≤◌, ◌<◌, ◌↔◌, ℕ, List, [], All, Contains, IfOk, IsTrue};
 ghost use Rattle.std.specs.List.{AllPairs};
 ghost use Rattle.glk_cause.specs.declared.cause.Cause.TheVariants as cause;
 ghost use Rattle.glk_cause.specs.Chain.{Answers, Checks};
 ghost use Rattle.glk_arena.specs.World.{Package, objects_of, symbol_count};
-ghost use Rattle.glk_link.specs.World.{AreObjects, IsDefinition, row_limit};
+ghost use Rattle.glk_keys.specs.Rows.{row_count, row_limit};
+ghost use Rattle.glk_obj.specs.Numbers.{kind_of, standard_number};
+ghost use Rattle.glk_link.specs.World.{AreObjects, IsDefinition};
+ghost use Rattle.glk_link.specs.Merges.{row_path, IsKnownConfig};
 ghost use Rattle.glk_link.specs.Plans.{linked_bytes, AreFewBytes, AreChosen, IsPlan};
 ghost use Rattle.glk_link.specs.Image.{IsImageOf};
 ghost use Rattle.glk_link.specs.Reach.{AreKept, Misses};
-ghost use Rattle.glk_link.specs.Refusals.{rows_taken, undefined_call};
-ghost use Rattle.glk_link.specs.Passes.{IsWithinLimits, HasPlainObjects, Reaches, FindsCallees, HasPlacedSymbols, Keeps, LinksPackages, report_of};
-ghost use Rattle.glk_link.specs.Outputs.{kept_of, linked_of, HasReport};
+ghost use Rattle.glk_link.specs.Refusals.{undefined_call};
+ghost use Rattle.glk_link.specs.Passes.{IsWithinLimits, IsMerged, HasKnownConfig, HasPlainObjects, Reaches, FindsCallees, HasPlacedSymbols, Keeps, LinksWorld, LinksPackages, report_of};
+ghost use Rattle.glk_link.specs.Outputs.{program_by, kept_of, linked_of, HasReport};
 
 use crate::built::first_unbuilt;
 use crate::counts::definitions_of;
 use crate::entry::start_of;
 use crate::image::image_with;
+use crate::inputs::Inputs;
 use crate::kept_rows::kept_list;
 use crate::missing::{first_missing, missing_name};
 use crate::options::Report;
@@ -26,11 +30,12 @@ use crate::world::World;
 use glk_arena::Loaded;
 use glk_base::{Fault, OutOfMemory, Text};
 use glk_cause::{Cause, Form, Limit};
+use glk_io::Gate;
+use glk_keys::row_total;
+use glk_merge::{Clash, merge};
+use glk_obj::{Numbers, RelocKind};
 use std::alloc::Global;
-
-// The number of the linker's own rows: the entry, `runtime.unreachableMethod` and
-// `runtime.mapinitnoop` in two ABIs each, two lists of initialization, and 27 names that it makes.
-const OWN_ROWS: u64 = 35;
+use std::thread::Threads;
 
 // The largest number of rows of a link.
 const ROW_LIMIT: u64 = 1 << 24;
@@ -55,19 +60,136 @@ pub struct Output {
     pub report: Report,
 }
 
-/// What a link makes of the packages that are loaded.
+/// What a link makes of what is loaded. Definitions are merged by workers side by side.
 ///
 /// # Errors
 /// The first refusal of a pass over the packages, or out of memory.
-pub(crate) fn link_packages(
+pub(crate) fn link_packages<R: Threads + Sync, G: Gate>(
+    rt: &R,
     alloc: Global,
-    loaded: &Loaded,
+    inputs: &Inputs,
     entry: &[u8],
+    workers: u32,
+    gate: &G,
 ) -> Result<Output, Fault<Cause>>
-    ensures linked { Answers (LinksPackages entry.now loaded.now) (linked_of loaded.now) result }
+    requires { (1 ≤ workers) × (workers ≤ 64) }
+    ensures linked { Answers (LinksPackages (program_by entry.now inputs.now)) (linked_of inputs.now.loaded) result }
+    ensures report { IfOk result (HasReport inputs.now.loaded) }
+{
+    check_limits(inputs, entry)?;
+    check_clashes(rt, alloc, inputs, entry, workers, gate)?;
+    check_config(inputs, entry)?;
+    link_world(alloc, &inputs.loaded, entry)
+}
+
+// There are few enough rows, and the files are short enough.
+fn check_limits(inputs: &Inputs, entry: &[u8]) -> Result<(), Fault<Cause>>
+    ensures limits { Checks IsWithinLimits (program_by entry.now inputs.now) result }
+    ensures rows { IfOk result (λ _. row_count (program_by entry.now inputs.now) ≤ row_limit) }
+    ensures bytes { IfOk result (λ _. AreFewBytes inputs.now.loaded) }
+{
+    let _ = entry;
+    let length = inputs.loaded.bytes();
+    let _builtins = inputs.builtins.len();
+    let _rows = inputs.loaded.rows();
+    let number = row_total(&inputs.loaded, &inputs.builtins);
+    if number > ROW_LIMIT {
+        let limit = Limit::Rows;
+        return Err(Fault::Bad(Cause::TooLarge { limit, number }));
+    }
+    if length > LINKED_BYTES {
+        return Err(Fault::Bad(Cause::NotYet { form: Form::Size }));
+    }
+    Ok(())
+}
+
+// No definitions clash.
+fn check_clashes<R: Threads + Sync, G: Gate>(
+    rt: &R,
+    alloc: Global,
+    inputs: &Inputs,
+    entry: &[u8],
+    workers: u32,
+    gate: &G,
+) -> Result<(), Fault<Cause>>
+    requires rows { row_count (program_by entry.now inputs.now) ≤ row_limit }
+    requires workers { (1 ≤ workers) × (workers ≤ 64) }
+    ensures { Checks IsMerged (program_by entry.now inputs.now) result }
+{
+    let loaded = &inputs.loaded;
+    let builtins = &inputs.builtins;
+    match merge(
+        rt,
+        alloc,
+        loaded,
+        entry,
+        builtins,
+        inputs.numbers,
+        workers,
+        gate,
+    ) {
+        Ok(_) => Ok(()),
+        Err(Fault::Bad(clash)) => Err(Fault::Bad(clash_cause(alloc, loaded, clash)?)),
+        Err(Fault::OutOfMemory) => Err(Fault::OutOfMemory),
+    }
+}
+
+// The refusal of a clash.
+fn clash_cause(alloc: Global, loaded: &Loaded, clash: Clash) -> Result<Cause, OutOfMemory>
+    requires first { clash.first.0 < symbol_count loaded.now }
+    requires second { clash.second.0 < symbol_count loaded.now }
+    ensures { IfOk result (λ refusal. refusal ≡ cause.Clash clash.name clash.first clash.second
+        (row_path loaded.now clash.first.0, row_path loaded.now clash.second.0)) }
+{
+    let first = Text::new(alloc, loaded.package_of(clash.first))?;
+    let second = Text::new(alloc, loaded.package_of(clash.second))?;
+    Ok(Cause::Clash {
+        name: clash.name,
+        first: clash.first,
+        second: clash.second,
+        packages: (first, second),
+    })
+}
+
+// The configuration files say what golink knows today.
+fn check_config(inputs: &Inputs, entry: &[u8]) -> Result<(), Fault<Cause>>
+    ensures { Checks HasKnownConfig (program_by entry.now inputs.now) result }
+{
+    let _ = entry;
+    if is_known(inputs) {
+        return Ok(());
+    }
+    Err(Fault::Bad(Cause::NotYet { form: Form::Object }))
+}
+
+// Whether calls have their standard numbers, and there is no builtin.
+fn is_known(inputs: &Inputs) -> bool
+    ensures { (entry : List ℕ) → IsTrue result ↔ IsKnownConfig (program_by entry inputs.now) }
+{
+    if !is_standard(&inputs.numbers, RelocKind::Call) {
+        return false;
+    }
+    if !is_standard(&inputs.numbers, RelocKind::PcRel) {
+        return false;
+    }
+    inputs.builtins.len() == 0
+}
+
+// Whether a kind has its standard number.
+fn is_standard(numbers: &Numbers, kind: RelocKind) -> bool
+    ensures { IsTrue result ↔ (kind_of numbers.now (standard_number kind) ≡ Some kind) }
+{
+    numbers.kind(kind.standard_number()) == Some(kind)
+}
+
+// What a link makes of packages within the limits.
+fn link_world(alloc: Global, loaded: &Loaded, entry: &[u8]) -> Result<Output, Fault<Cause>>
+    requires rows { symbol_count loaded.now ≤ row_limit }
+    requires bytes { AreFewBytes loaded.now }
+    ensures linked { Answers (LinksWorld entry.now loaded.now) (linked_of loaded.now) result }
     ensures report { IfOk result (HasReport loaded.now) }
 {
-    let world = world_of(alloc, loaded)?;
+    let world = World::new(alloc, loaded)?;
     let reached = kept(alloc, &world, entry)?;
     check_symbols(alloc, &world, &reached)?;
     let image = image_of(alloc, &world, reached.start, &reached.kept)?;
@@ -77,22 +199,6 @@ pub(crate) fn link_packages(
         image,
         report,
     })
-}
-
-/// The world of the packages that are loaded, where there are few enough rows and the files are short
-/// enough.
-///
-/// # Errors
-/// `TooLarge`, `NotYet`, or out of memory.
-pub fn world_of(alloc: Global, loaded: &Loaded) -> Result<World<'_>, Fault<Cause>>
-    ensures within { Answers (IsWithinLimits loaded.now) (λ world. world) result }
-    ensures same { IfOk result (λ world. world ≡ loaded.now) }
-    ensures rows { IfOk result (λ world. rows_taken world ≤ row_limit) }
-    ensures bytes { IfOk result AreFewBytes }
-{
-    check_limits(loaded)?;
-    let world = World::new(alloc, loaded)?;
-    Ok(world)
 }
 
 /// What is kept of a world, where all of its objects are such as golink links and all that is called
@@ -110,24 +216,6 @@ pub fn kept(alloc: Global, world: &World<'_>, entry: &[u8]) -> Result<Reached, F
     let reached = reach_from(alloc, world, entry)?;
     check_calls(alloc, world, &reached)?;
     Ok(reached)
-}
-
-// There are few enough rows, and the files are short enough.
-fn check_limits(loaded: &Loaded) -> Result<(), Fault<Cause>>
-    ensures limits { Checks IsWithinLimits loaded.now result }
-    ensures rows { IfOk result (λ _. rows_taken loaded.now ≤ row_limit) }
-    ensures bytes { IfOk result (λ _. AreFewBytes loaded.now) }
-{
-    let length = loaded.bytes();
-    let number = loaded.rows() + OWN_ROWS;
-    if number > ROW_LIMIT {
-        let limit = Limit::Rows;
-        return Err(Fault::Bad(Cause::TooLarge { limit, number }));
-    }
-    if length > LINKED_BYTES {
-        return Err(Fault::Bad(Cause::NotYet { form: Form::Size }));
-    }
-    Ok(())
 }
 
 // The objects are such as golink links.
@@ -246,7 +334,7 @@ fn image_at(
 
 // The report of what was linked.
 fn report(world: &World<'_>, kept: &[u32], image: &[u8]) -> Report
-    requires rows { rows_taken world.now ≤ row_limit }
+    requires rows { symbol_count world.now ≤ row_limit }
     requires rising { AllPairs (λ i j. i < j) kept.now }
     requires range { All (IsDefinition world.now) kept.now }
     ensures { result ≡ report_of (record { world = world.now; kept = kept.now; image = image.now }) }

@@ -17,7 +17,7 @@ use Rattle.glk_keys.specs.RowLaws.{all_rows, own_count, row_of_object}
 use Rattle.glk_keys.specs.Rows.{Row, row_at, row_count, positions, made_row, is_strong, is_shared}
 use Rattle.glk_merge.specs.Mergings.{IsRow, IsDefinitionRow}
 
-all_in_range : (n : ℕ) → All (λ q. q < n) (range_with_len 0 n)
+pub all_in_range : (n : ℕ) → All (λ q. q < n) (range_with_len 0 n)
 all_in_range n =
     let long = length-range_with_len 0 n in
     All-from_get_or (λ q. q < n) (range_with_len 0 n) 0 (λ i h. let e = get_or-range_with_len 0 n i 0 (omega arith) in omega arith)

@@ -21,8 +21,8 @@ usage: golink COMMAND [FLAGS] [FILE]\n\
 \x20 link       links a package file with its imports into an image\n\
 \x20     -o FILE          the image to write (default a.out)\n\
 \x20     -importcfg FILE  the file of each imported package (see the example)\n\
-\x20     -numbers FILE    the numbers of relocation kinds (not built yet)\n\
-\x20     -builtin FILE    the builtin symbols (not built yet)\n\
+\x20     -numbers FILE    the numbers of relocation kinds (a line: KIND NUMBER)\n\
+\x20     -builtin FILE    the builtin symbols (a line: NAME ABI; not built yet)\n\
 \x20     -E NAME          the entry symbol (default _rt0_amd64_linux)\n\
 \x20     -s               omit the symbol table (no image has one yet)\n\
 \x20     -w               omit DWARF (no image has it)\n\
