@@ -1,13 +1,14 @@
 -- What a table of numbers has after some lines of a file, and what the next line does to it.
-use Rattle.std.proofs.Common.{◌≡◌, ◌≢◌, ◌+◌, ◌-◌, ◌<◌, ◌^◌, ◌∙◌, ◌⊎◌, ◌↔◌, inl, inr, ℕ, true, false, List, length, min, refl, ap, sym, subst, arith, eqb, eq-eqb, Option, Some, None}
+use Rattle.std.proofs.Common.{get_or, zero, suc, [], ◌∷◌, ◌≡◌, ◌≢◌, ◌+◌, ◌-◌, ◌<◌, ◌^◌, ◌∙◌, ◌⊎◌, ◌↔◌, inl, inr, ℕ, true, false, List, length, min, refl, ap, sym, subst, arith, eqb, eq-eqb, Option, Some, None}
 use Rattle.std.proofs.lemmas.Bool.{false≢true, eqb-true}
-use Rattle.std.proofs.lemmas.List.{get_or-set_same, get_or-set_other}
+use Rattle.std.proofs.lemmas.List.{get_or-set_same, get_or-set_other, length-set, ext_get_or}
+use Rattle.std.proofs.lemmas.Bool.{cases_lt}
 use denote.Ref.{Bor}
 use Rattle.glk_base.specs.Lines.{lines, trimmed_line, is_skipped, line_at, IsCut, HasRead, IsFirstBad, AllGood}
 use Rattle.glk_base.proofs.Cuts.{start_read, next_line, read_good, read_bad, read_whole, read_all}
 use Rattle.glk_obj.specs.declared.kinds.RelocKind.{RelocKind}
 use Rattle.glk_obj.specs.declared.numbers.Numbers.{Numbers}
-use Rattle.glk_obj.specs.Numbers.{index_of, number_in, kind_of, Gives, IsGiven, IsGood}
+use Rattle.glk_obj.specs.Numbers.{kinds, index_of, number_in, kind_of, Gives, IsGiven, IsGood, IsListed, HasNoOthers}
 use Rattle.glk_obj.specs.NumberSteps.{Takes, Adds, GivesNothing, GivesOldKind, GivesOldNumber}
 use Rattle.glk_obj.proofs.KindNumbers.{index_injective, one_kind, one_number, kind_has, no_kind}
 
@@ -16,6 +17,7 @@ pub record HasJust (table : Numbers) (ls : List (List ℕ)) (n : ℕ) : Type 0 w
   pub given : (kind : RelocKind) → 0 < number_in table kind → IsGiven ls n kind (number_in table kind)
   pub has : (kind : RelocKind) (number : ℕ) → IsGiven ls n kind number → number_in table kind ≡ number
   pub apart : (a b : RelocKind) → 0 < number_in table a → number_in table a ≡ number_in table b → a ≡ b
+  pub size : length table.numbers ≡ length kinds
 
 pub given_more : (ls : List (List ℕ)) (n : ℕ) (kind : RelocKind) (number : ℕ) → IsGiven ls n kind number → IsGiven ls (n + 1) kind number
 given_more ls n kind number g = record { line = g.line; before = let h = g.before in omega arith; gives = g.gives }
@@ -37,11 +39,12 @@ given_cases ls n kind number g = elim (eqb g.line n) as (λ b. eqb g.line n ≡ 
 ] refl
 
 -- no line is read, and the table is empty
-pub just_none : (table : Numbers) (ls : List (List ℕ)) → ((kind : RelocKind) → number_in table kind ≡ 0) → HasJust table ls 0
-just_none table ls empty = record {
+pub just_none : (table : Numbers) (ls : List (List ℕ)) → ((kind : RelocKind) → number_in table kind ≡ 0) → length table.numbers ≡ length kinds → HasJust table ls 0
+just_none table ls empty size = record {
   given = λ kind some. let e = empty kind in absurd (omega arith);
   has = λ kind number g. let h = g.before in absurd (omega arith);
   apart = λ a b some same. let e = empty a in absurd (omega arith);
+  size = size;
 }
 
 -- a line is skipped
@@ -53,6 +56,7 @@ just_skipped table ls n t passed = record {
     | inr here ↦ absurd (false≢true (sym here.read ∙ passed))
   ];
   apart = t.apart;
+  size = t.size;
 }
 
 -- a kind is the added one, or has the number that it had
@@ -113,6 +117,7 @@ just_added table ls n next t h = record {
                   t.apart a b positive (sym had ∙ same ∙ kept)
             ]
       ];
+  size = rw h.next_is (length-set table.numbers (index_of h.kind) h.number ∙ t.size);
 }
 
 -- the lines that are taken are good, and those that are refused are not
@@ -163,8 +168,8 @@ pub record Parsed (ls : List (List ℕ)) (table : Numbers) (rest : Option (Bor (
   pub lines_read : HasRead ls (IsGood ls) read rest number
   pub just : HasJust table ls read
 
-pub parse_start : (text : Bor (List ℕ)) (table : Numbers) → ((kind : RelocKind) → number_in table kind ≡ 0) → Parsed (lines text.now) table (Some text) 1
-parse_start text table empty = record { read = 0; lines_read = start_read text (IsGood (lines text.now)); just = just_none table (lines text.now) empty }
+pub parse_start : (text : Bor (List ℕ)) (table : Numbers) → ((kind : RelocKind) → number_in table kind ≡ 0) → length table.numbers ≡ length kinds → Parsed (lines text.now) table (Some text) 1
+parse_start text table empty size = record { read = 0; lines_read = start_read text (IsGood (lines text.now)); just = just_none table (lines text.now) empty size }
 
 -- the next line without its blanks
 here : (ls : List (List ℕ)) (n : ℕ) (text : Bor (List ℕ)) (line field : List ℕ) (rest : Option (Bor (List ℕ))) (number : ℕ)
@@ -228,3 +233,46 @@ parse_kinds ls table last p kind number =
           subst (λ (m : ℕ). IsGiven ls (length ls) kind m) has.1 (t.given kind some),
       λ g. kind_given table ls kind number t g,
     )
+
+pub parse_others : (ls : List (List ℕ)) (table : Numbers) (last : ℕ) → Parsed ls table None last → HasNoOthers ls table
+parse_others ls table last p =
+    let whole : p.read ≡ length ls = read_whole ls (IsGood ls) p.read last p.lines_read in
+    record { size = p.just.size; given = λ kind some. subst (λ (n : ℕ). IsGiven ls n kind (number_in table kind)) whole (p.just.given kind some) }
+
+-- the indices of some kinds rise by one, from n on
+abbrev AreFrom : ℕ → List RelocKind → Type 0
+AreFrom n [] = Unit {0}
+AreFrom n (k ∷ ks) = (index_of k ≡ n) × AreFrom (suc n) ks
+
+kinds_rise : AreFrom 0 kinds
+kinds_rise = (refl, (refl, (refl, (refl, (refl, (refl, (refl, (refl, (refl, (refl, (refl, (refl, (refl, (refl, tt))))))))))))))
+
+-- the kind of an index
+kind_at : (n : ℕ) (ks : List RelocKind) → AreFrom n ks → (i : ℕ) → i < length ks → (kind : RelocKind) × (index_of kind ≡ n + i)
+kind_at n [] rise i l = absurd (omega (arith, l))
+kind_at n (k ∷ ks) rise zero l = (k, omega (arith, rise.0))
+kind_at n (k ∷ ks) rise (suc i) l = let later = kind_at (suc n) ks rise.1 i (omega (arith, l)) in (later.0, omega (arith, later.1))
+
+-- the lines of a file give one table
+pub one_listed : (ls : List (List ℕ)) (a b : Numbers) → IsListed ls a → HasNoOthers ls a → IsListed ls b → HasNoOthers ls b → a ≡ b
+one_listed ls a b lists_a only_a lists_b only_b =
+    ap (λ (n : List ℕ). record { numbers = n }) (ext_get_or 0 a.numbers b.numbers (only_a.size ∙ sym only_b.size) each)
+  where
+    -- what one table has the other has
+    has : (x y : Numbers) (kind : RelocKind) → HasNoOthers ls x → IsListed ls y → 0 < number_in x kind → number_in y kind ≡ number_in x kind
+    has x y kind only lists some = (kind_has y kind (number_in x kind) ((lists kind (number_in x kind)).1 (only.given kind some))).1
+
+    same : (kind : RelocKind) → number_in a kind ≡ number_in b kind
+    same kind = elim (cases_lt 0 (number_in a kind)) [
+      | inl some ↦ sym (has a b kind only_a lists_b some)
+      | inr none ↦ elim (cases_lt 0 (number_in b kind)) [
+        | inl some ↦ has b a kind only_b lists_a some
+        | inr nothing ↦ omega (arith, none, nothing)
+      ]
+    ]
+
+    each : (i : ℕ) → i < length a.numbers → get_or a.numbers i 0 ≡ get_or b.numbers i 0
+    each i l =
+        let k = kind_at 0 kinds kinds_rise i (subst (λ n. i < n) only_a.size l) in
+        let at : index_of k.0 ≡ i = omega (arith, k.1) in
+        subst (λ (j : ℕ). get_or a.numbers j 0 ≡ get_or b.numbers j 0) at (same k.0)

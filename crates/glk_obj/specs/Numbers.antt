@@ -109,3 +109,8 @@ IsStandard table = (kind : RelocKind) (number : ℕ) → (kind_of table number �
 abbrev pub IsListed : List (List ℕ) → Numbers → Type 0
 IsListed ls table =
     (kind : RelocKind) (number : ℕ) → (kind_of table number ≡ Some kind) ↔ IsGiven ls (length ls) kind number
+
+-- the table has no other numbers: a number of each kind that has one, which a line gives
+pub record HasNoOthers (ls : List (List ℕ)) (table : Numbers) : Type 0 where
+  pub size : length table.numbers ≡ length kinds
+  pub given : (kind : RelocKind) → 0 < number_in table kind → IsGiven ls (length ls) kind (number_in table kind)

@@ -3,7 +3,7 @@ ghost use Rattle.std.specs.Prelude.{◌≡◌, ◌<◌, ◌≤◌, ◌↔◌, �
 ghost use Rattle.glk_base.specs.Lines.{lines, trimmed_line, is_skipped as skipped, AllGood, IsFirstBad};
 ghost use Rattle.glk_obj.specs.declared.kinds.RelocKind.{RelocKind};
 ghost use Rattle.glk_obj.specs.NumberSteps.{Takes, IsKindNamed, IsEntryOf};
-ghost use Rattle.glk_obj.specs.Numbers.{number_in, kind_of, Gives, IsGood, IsStandard, IsListed};
+ghost use Rattle.glk_obj.specs.Numbers.{number_in, kind_of, Gives, IsGood, IsStandard, IsListed, HasNoOthers};
 
 use crate::kinds::{KINDS, RelocKind};
 use glk_base::ConfigLine;
@@ -56,7 +56,8 @@ impl Numbers {
     /// INITORDER 11, CALLIND 12, KEEP 13, IGNORE 14.
     #[tactic(auto, unfolding(crate::specs::Numbers::kind_of))]
     pub fn standard() -> Numbers
-        ensures { IsStandard result }
+        ensures kinds { IsStandard result }
+        ensures size { length result.numbers ≡ 14 }
     {
         Numbers {
             numbers: [1, 2, 3, 4, 5, 6, 7, 8, 9, 10, 11, 12, 13, 14],
@@ -74,6 +75,7 @@ impl Numbers {
     pub fn parse(text: &[u8]) -> Result<Numbers, ConfigLine>
         ensures good { OnOk result (AllGood (lines text.now) (IsGood (lines text.now))) }
         ensures kinds { IfOk result (IsListed (lines text.now)) }
+        ensures others { IfOk result (HasNoOthers (lines text.now)) }
         ensures bad { IfErr result (λ bad. IsFirstBad (lines text.now) (IsGood (lines text.now)) bad.line) }
     {
         let mut table = Numbers {

@@ -1,6 +1,6 @@
 use Rattle.std.proofs.Common.{◌≡◌, ◌+◌, ◌-◌, ◌^◌, min, rules}
 use Rattle.glk_base.specs.Lines.{lines}
-use Rattle.glk_obj.proofs.NumberLines.{parse_taken, parse_refused, parse_kinds}
+use Rattle.glk_obj.proofs.NumberLines.{parse_taken, parse_refused, parse_kinds, parse_others}
 use Rattle.glk_obj.proofs.numbers.Numbers.parse.Goals as goal
 
 pub returns-in-None-clause-bad : goal.returns-in-None-clause-bad
@@ -18,3 +18,8 @@ pub returns-clause-kinds : goal.returns-clause-kinds
 returns-clause-kinds c =
     let parsed = rw c.in_default.is at c.loop-rest.invariant in
     λ kind number. parse_kinds (lines c.args.text.now) c.loop-rest.table c.loop-rest.number parsed kind number
+
+pub returns-clause-others : goal.returns-clause-others
+returns-clause-others c =
+    let parsed = rw c.in_default.is at c.loop-rest.invariant in
+    parse_others (lines c.args.text.now) c.loop-rest.table c.loop-rest.number parsed
