@@ -10,7 +10,7 @@ use Rattle.glk_obj.specs.declared.symbols.SymKind.TheVariants.{Text, Rodata, Nop
 use Rattle.glk_elf.specs.Sections.{text, rodata, written_data, bss, noptrbss, tbss}
 use Rattle.glk_elf.specs.Placing.{text_start, of_section}
 use Rattle.glk_layout.specs.declared.input.KeptSymbol.{KeptSymbol}
-use Rattle.glk_layout.specs.declared.input.PlacedContents.{PlacedContents}
+use Rattle.glk_layout.specs.Placed.{PlacedContents}
 use Rattle.glk_layout.specs.declared.placing.Layout.{Layout}
 use Rattle.glk_layout.specs.Boxes.{Box, no_box, box_end, end_after}
 use Rattle.glk_layout.specs.Symbols.{is_in, home_of, section_of_kind, box_of, boxes_in, alignment_of, room_of}
@@ -102,17 +102,17 @@ with_above n end s = chosen (is_in n s)
     chosen false = let e : end ≤ end = omega arith in e
 
 module _ (c : PlacedContents) (n : ℕ) where
-  symbol_more : (i : ℕ) → i < length c.symbols.now → end_before c n (i + 1) ≡ with_symbol n (end_before c n i) (symbol_at c i)
+  symbol_more : (i : ℕ) → i < length c.symbols → end_before c n (i + 1) ≡ with_symbol n (end_before c n i) (symbol_at c i)
   unfolding end_before
-  symbol_more i lt = symbols_more n (section_start c n) c.symbols.now i no_symbol lt
+  symbol_more i lt = symbols_more n (section_start c n) c.symbols i no_symbol lt
 
-  same_past : (m : ℕ) → length c.symbols.now ≤ m → end_before c n m ≡ end_after (section_start c n) (boxes_in n c.symbols.now)
+  same_past : (m : ℕ) → length c.symbols ≤ m → end_before c n m ≡ end_after (section_start c n) (boxes_in n c.symbols)
   unfolding end_before
-  same_past m past = ap (λ l. end_after (section_start c n) (boxes_in n l)) (take_all m c.symbols.now past)
+  same_past m past = ap (λ l. end_after (section_start c n) (boxes_in n l)) (take_all m c.symbols past)
 
   symbol_up : (m : ℕ) → end_before c n m ≤ end_before c n (m + 1)
   symbol_up m =
-      elim (cases_lt m (length c.symbols.now)) [
+      elim (cases_lt m (length c.symbols)) [
         | inl inside ↦
             let more = symbol_more m inside in
             let above = with_above n (end_before c n m) (symbol_at c m) in
@@ -157,18 +157,18 @@ module _ (c : PlacedContents) (n : ℕ) where
       omega (arith, before_none, u, above)
 
   -- the end of a symbol that is in the section
-  symbol_end : (i : ℕ) → i < length c.symbols.now → is_in n (symbol_at c i) ≡ true
+  symbol_end : (i : ℕ) → i < length c.symbols → is_in n (symbol_at c i) ≡ true
       → address_within c n i + room_of (symbol_at c i) ≡ end_before c n (i + 1)
   symbol_end i lt here =
       let P : Bool → Type 0 = λ b. end_before c n (i + 1) ≡ (if b then box_end (end_before c n i) (box_of (symbol_at c i)) else end_before c n i) in
       sym (subst P here (symbol_more i lt))
 
-symbols_end : (c : PlacedContents) (k : ℕ) → IsPlaceable c → end_before c (suc k) (length c.symbols.now) ≤ section_end c (suc k)
+symbols_end : (c : PlacedContents) (k : ℕ) → IsPlaceable c → end_before c (suc k) (length c.symbols) ≤ section_end c (suc k)
 symbols_end c k p =
-    let past = same_past c (suc k) (length c.symbols.now) (let e : length c.symbols.now ≤ length c.symbols.now = omega arith in e) in
-    let whole = end_append (section_start c (suc k)) (boxes_in (suc k) c.symbols.now) (made_boxes c (suc k)) in
+    let past = same_past c (suc k) (length c.symbols) (let e : length c.symbols ≤ length c.symbols = omega arith in e) in
+    let whole = end_append (section_start c (suc k)) (boxes_in (suc k) c.symbols) (made_boxes c (suc k)) in
     let next = end_next c k in
-    let above = end_above (end_after (section_start c (suc k)) (boxes_in (suc k) c.symbols.now)) (made_boxes c (suc k)) (made_aligned c (suc k) p) in
+    let above = end_above (end_after (section_start c (suc k)) (boxes_in (suc k) c.symbols)) (made_boxes c (suc k)) (made_aligned c (suc k) p) in
     omega (arith, past, whole, next, above)
 
 pub symbols_in_order : AreSymbolsInOrder
@@ -182,8 +182,8 @@ symbols_in_order c n p low high = record {
       omega (arith, end, u, above);
   to = λ i lt here.
       let end = symbol_end c n i lt here in
-      let u = symbols_up_to c n (i + 1) (length c.symbols.now) (omega arith) in
-      let P : ℕ → Type 0 = λ m. end_before c m (length c.symbols.now) ≤ section_end c m in
+      let u = symbols_up_to c n (i + 1) (length c.symbols) (omega arith) in
+      let P : ℕ → Type 0 = λ m. end_before c m (length c.symbols) ≤ section_end c m in
       let e : suc (n - 1) ≡ n = omega arith in
       let last = subst P e (symbols_end c (n - 1) p) in
       omega (arith, end, u, last);
@@ -290,13 +290,13 @@ layout_is c l symbols made p ranges placed symbols_are made_are = record {
 }
 
 -- before the first section nothing is placed
-pub placed_none : (c : PlacedContents) (symbols made : List ℕ) → symbols ≡ replicate (length c.symbols.now) 0 → made ≡ replicate (length c.made.now) 0
+pub placed_none : (c : PlacedContents) (symbols made : List ℕ) → symbols ≡ replicate (length c.symbols) 0 → made ≡ replicate (length c.made) 0
     → ArePlacedTo c 0 symbols made
 placed_none c symbols made symbols_are made_are = record {
-  symbol_count = ap length symbols_are ∙ length-replicate (length c.symbols.now) 0;
-  symbols_at = λ i lt. zero_at symbols (length c.symbols.now) i symbols_are lt ∙ sym (none_by i (home_of (symbol_at c i)) (home_known (symbol_at c i)));
-  made_count = ap length made_are ∙ length-replicate (length c.made.now) 0;
-  made_at = λ i lt. zero_at made (length c.made.now) i made_are lt;
+  symbol_count = ap length symbols_are ∙ length-replicate (length c.symbols) 0;
+  symbols_at = λ i lt. zero_at symbols (length c.symbols) i symbols_are lt ∙ sym (none_by i (home_of (symbol_at c i)) (home_known (symbol_at c i)));
+  made_count = ap length made_are ∙ length-replicate (length c.made) 0;
+  made_at = λ i lt. zero_at made (length c.made) i made_are lt;
 }
   where
     zero_at : (xs : List ℕ) (n i : ℕ) → xs ≡ replicate n 0 → i < n → get_or xs i 0 ≡ 0
@@ -334,6 +334,6 @@ pub text_ends : TextEnds
 text_ends c =
     end_next c 0
     ∙ (ap (λ a. end_after a (section_boxes c 1)) (text_first c)
-    ∙ (end_append text_start (boxes_in 1 c.symbols.now) (made_boxes c 1)
-    ∙ (whole_end (end_after text_start (boxes_in 1 c.symbols.now)) 0
-    ∙ add-zero (end_after text_start (boxes_in 1 c.symbols.now)))))
+    ∙ (end_append text_start (boxes_in 1 c.symbols) (made_boxes c 1)
+    ∙ (whole_end (end_after text_start (boxes_in 1 c.symbols)) 0
+    ∙ add-zero (end_after text_start (boxes_in 1 c.symbols)))))

@@ -11,7 +11,7 @@ use Rattle.glk_elf.specs.Sections.{text, rodata, bss, noptrbss, tbss}
 use Rattle.glk_elf.specs.Image.{multiple_from, page_size}
 use Rattle.glk_elf.specs.Placing.{text_start, start_multiple, section_align}
 use Rattle.glk_layout.specs.declared.input.KeptSymbol.{KeptSymbol}
-use Rattle.glk_layout.specs.declared.input.PlacedContents.{PlacedContents}
+use Rattle.glk_layout.specs.Placed.{PlacedContents}
 use Rattle.glk_layout.specs.Boxes.{box_address, end_after, address_in}
 use Rattle.glk_layout.specs.Symbols.{is_in, home_of, box_of, boxes_in, alignment_of, data_align, text_align}
 use Rattle.glk_layout.specs.Layout.{made_box, made_boxes, whole_box, table_size, section_boxes, section_start, section_end, symbol_at, address_within, end_before, made_address, IsPlaceable}
@@ -62,12 +62,12 @@ made_aligned c n p = made_cases (n == rodata)
     whole_aligned size zero d lt = omega arith
     whole_aligned size (suc k) d lt = absurd (omega (arith, lt))
 
-    made_cases : (b : Bool) → All (λ b. 0 < b.align) (if b then map made_box c.made.now else whole_box (table_size c.tables n) ∷ [])
-    made_cases true = All-map (λ b. 0 < b.align) made_box c.made.now p.aligned
+    made_cases : (b : Bool) → All (λ b. 0 < b.align) (if b then map made_box c.made else whole_box (table_size c.tables n) ∷ [])
+    made_cases true = All-map (λ b. 0 < b.align) made_box c.made p.aligned
     made_cases false = whole_aligned (table_size c.tables n)
 
 pub section_aligned : (c : PlacedContents) (n : ℕ) → IsPlaceable c → All (λ b. 0 < b.align) (section_boxes c n)
-section_aligned c n p = All-append (λ b. 0 < b.align) (boxes_in n c.symbols.now) (made_boxes c n) (symbols_aligned n c.symbols.now) (made_aligned c n p)
+section_aligned c n p = All-append (λ b. 0 < b.align) (boxes_in n c.symbols) (made_boxes c n) (symbols_aligned n c.symbols) (made_aligned c n p)
 
 -- Where sections start and end.
 
@@ -157,24 +157,24 @@ made_step k a b same =
     ]
 
 module _ (c : PlacedContents) (k start : ℕ) (start_is : start ≡ section_start c (suc k)) where
-  symbols_next : (old new : List ℕ) → ((i : ℕ) → i < length c.symbols.now → get_or old i 0 ≡ address_by c k i)
-      → PlacesIn (suc k) start c.symbols.now old new → (i : ℕ) → i < length c.symbols.now → get_or new i 0 ≡ address_by c (suc k) i
+  symbols_next : (old new : List ℕ) → ((i : ℕ) → i < length c.symbols → get_or old i 0 ≡ address_by c k i)
+      → PlacesIn (suc k) start c.symbols old new → (i : ℕ) → i < length c.symbols → get_or new i 0 ≡ address_by c (suc k) i
   unfolding is_in end_before
   symbols_next old new before places i lt =
       places i lt
-      ∙ (ap (λ a. if is_in (suc k) (symbol_at c i) then box_address (end_after a (boxes_in (suc k) (take i c.symbols.now))) (box_of (symbol_at c i)) else get_or old i 0) start_is
+      ∙ (ap (λ a. if is_in (suc k) (symbol_at c i) then box_address (end_after a (boxes_in (suc k) (take i c.symbols))) (box_of (symbol_at c i)) else get_or old i 0) start_is
       ∙ (ap (λ x. if is_in (suc k) (symbol_at c i) then address_within c (suc k) i else x) (before i lt)
       ∙ home_step (λ n. address_within c n i) k (home_of (symbol_at c i))))
 
-  made_next : (old new : List ℕ) → ((i : ℕ) → i < length c.made.now → get_or old i 0 ≡ (if nat_le rodata k then made_address c i else 0))
-      → PlacesMade c (suc k) start old new → (i : ℕ) → i < length c.made.now
+  made_next : (old new : List ℕ) → ((i : ℕ) → i < length c.made → get_or old i 0 ≡ (if nat_le rodata k then made_address c i else 0))
+      → PlacesMade c (suc k) start old new → (i : ℕ) → i < length c.made
       → get_or new i 0 ≡ (if nat_le rodata (suc k) then made_address c i else 0)
   made_next old new before places i lt =
       places i lt
-      ∙ (ap (λ x. if suc k == rodata then address_in (end_after start (boxes_in (suc k) c.symbols.now)) (map made_box c.made.now) i else x) (before i lt)
-      ∙ made_step k (made_address c i) (address_in (end_after start (boxes_in (suc k) c.symbols.now)) (map made_box c.made.now) i)
-      (λ e. ap (λ a. address_in (end_after a (boxes_in (suc k) c.symbols.now)) (map made_box c.made.now) i) start_is
-      ∙ ap (λ n. address_in (end_after (section_start c n) (boxes_in n c.symbols.now)) (map made_box c.made.now) i) e))
+      ∙ (ap (λ x. if suc k == rodata then address_in (end_after start (boxes_in (suc k) c.symbols)) (map made_box c.made) i else x) (before i lt)
+      ∙ made_step k (made_address c i) (address_in (end_after start (boxes_in (suc k) c.symbols)) (map made_box c.made) i)
+      (λ e. ap (λ a. address_in (end_after a (boxes_in (suc k) c.symbols)) (map made_box c.made) i) start_is
+      ∙ ap (λ n. address_in (end_after (section_start c n) (boxes_in n c.symbols)) (map made_box c.made) i) e))
 
 -- the sections up to number k are placed
 pub record SectionsTo (c : PlacedContents) (k end : ℕ) (addrs sizes symbols made : List ℕ) : Type 0 where
@@ -206,7 +206,7 @@ pub sections_step : (c : PlacedContents) (k end start after : ℕ) (addrs sizes 
     → after ≡ end_after start (section_boxes c (suc k))
     → after ≤ start + 2 ^ 57 + 2 ^ 58
     → length symbols' ≡ length symbols
-    → PlacesIn (suc k) start c.symbols.now symbols symbols'
+    → PlacesIn (suc k) start c.symbols symbols symbols'
     → length made' ≡ length made
     → PlacesMade c (suc k) start made made'
     → SectionsTo c (suc k) after (set addrs k start) (set sizes k (after - start)) symbols' made'
@@ -241,14 +241,14 @@ pub sections_next : (c : PlacedContents) (k next end start after : ℕ) (addrs s
     → after ≡ end_after start (section_boxes c next)
     → after ≤ start + 2 ^ 57 + 2 ^ 58
     → length symbols' ≡ length symbols
-    → PlacesIn next start c.symbols.now symbols symbols'
+    → PlacesIn next start c.symbols symbols symbols'
     → length made' ≡ length made
     → PlacesMade c next start made made'
     → SectionsTo c next after (set addrs k start) (set sizes k (after - start)) symbols' made'
 sections_next c k next end start after addrs sizes symbols made symbols' made' next_is few before least near after_is bound symbols_long places made_long made_places =
     let Least : ℕ → Type 0 = λ m. IsLeastMultiple (start_multiple m) end start in
     let After : ℕ → Type 0 = λ m. after ≡ end_after start (section_boxes c m) in
-    let Places : ℕ → Type 0 = λ m. PlacesIn m start c.symbols.now symbols symbols' in
+    let Places : ℕ → Type 0 = λ m. PlacesIn m start c.symbols symbols symbols' in
     let Made : ℕ → Type 0 = λ m. PlacesMade c m start made made' in
     let To : ℕ → Type 0 = λ m. SectionsTo c m after (set addrs k start) (set sizes k (after - start)) symbols' made' in
     subst To (sym next_is)

@@ -2,7 +2,7 @@
 use Rattle.std.specs.Prelude.{◌≡◌, ℕ, ◌+◌, ◌%◌, ◌<◌, ◌≤◌, true, List, length, get_or, All}
 use Rattle.glk_elf.specs.Sections.{text, noptrbss}
 use Rattle.glk_elf.specs.Placing.{text_start}
-use Rattle.glk_layout.specs.declared.input.PlacedContents.{PlacedContents}
+use Rattle.glk_layout.specs.Placed.{PlacedContents}
 use Rattle.glk_layout.specs.Boxes.{Box, no_box, end_after, address_in, end_in}
 use Rattle.glk_layout.specs.Symbols.{is_in, alignment_of, room_of, boxes_in}
 use Rattle.glk_layout.specs.Layout.{section_start, section_end, symbol_at, address_within, IsPlaceable}
@@ -20,13 +20,13 @@ BoxesAreInOrder = (bound : ℕ) (boxes : List Box) → All (λ b. 0 < b.align) b
 
 -- the symbols of a section: each on its alignment, within the section, and after all before it
 pub record SymbolsInOrder (c : PlacedContents) (n : ℕ) : Type 0 where
-  pub aligned : (i : ℕ) → i < length c.symbols.now → is_in n (symbol_at c i) ≡ true
+  pub aligned : (i : ℕ) → i < length c.symbols → is_in n (symbol_at c i) ≡ true
       → address_within c n i % alignment_of (symbol_at c i) ≡ 0
-  pub from : (i : ℕ) → i < length c.symbols.now → is_in n (symbol_at c i) ≡ true
+  pub from : (i : ℕ) → i < length c.symbols → is_in n (symbol_at c i) ≡ true
       → section_start c n ≤ address_within c n i
-  pub apart : (i j : ℕ) → i < j → j < length c.symbols.now → is_in n (symbol_at c i) ≡ true
+  pub apart : (i j : ℕ) → i < j → j < length c.symbols → is_in n (symbol_at c i) ≡ true
       → address_within c n i + room_of (symbol_at c i) ≤ address_within c n j
-  pub to : (i : ℕ) → i < length c.symbols.now → is_in n (symbol_at c i) ≡ true
+  pub to : (i : ℕ) → i < length c.symbols → is_in n (symbol_at c i) ≡ true
       → address_within c n i + room_of (symbol_at c i) ≤ section_end c n
 
 abbrev pub AreSymbolsInOrder : Type 0
@@ -40,4 +40,4 @@ AreSectionsInOrder =
 
 -- .text ends where its symbols do
 abbrev pub TextEnds : Type 0
-TextEnds = (c : PlacedContents) → section_end c text ≡ end_after text_start (boxes_in text c.symbols.now)
+TextEnds = (c : PlacedContents) → section_end c text ≡ end_after text_start (boxes_in text c.symbols)

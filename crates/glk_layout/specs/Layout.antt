@@ -8,7 +8,7 @@ use Rattle.glk_elf.specs.Placing.{text_start, start_multiple, of_section, ArePla
 use Rattle.glk_layout.specs.declared.input.KeptSymbol.{KeptSymbol}
 use Rattle.glk_layout.specs.declared.input.MadeContent.{MadeContent}
 use Rattle.glk_layout.specs.declared.input.Tables.{Tables}
-use Rattle.glk_layout.specs.declared.input.PlacedContents.{PlacedContents}
+use Rattle.glk_layout.specs.Placed.{PlacedContents}
 use Rattle.glk_layout.specs.declared.placing.Layout.{Layout}
 use Rattle.glk_layout.specs.Boxes.{Box, box_address, end_after, address_in}
 use Rattle.glk_layout.specs.Symbols.{home_of, box_of, boxes_in}
@@ -32,11 +32,11 @@ table_size t n =
 -- what is in a section after its symbols: made contents in .rodata, and a table in some others
 abbrev pub made_boxes : PlacedContents → ℕ → List Box
 made_boxes c n =
-    if n == rodata then map made_box c.made.now else whole_box (table_size c.tables n) ∷ []
+    if n == rodata then map made_box c.made else whole_box (table_size c.tables n) ∷ []
 
 -- the boxes of a section: its symbols in load order, then what is made for it
 abbrev pub section_boxes : PlacedContents → ℕ → List Box
-section_boxes c n = boxes_in n c.symbols.now ++ made_boxes c n
+section_boxes c n = boxes_in n c.symbols ++ made_boxes c n
 
 -- Where a section ends. It starts at the least multiple from the end of the section before; before the first section
 -- memory ends where .text starts.
@@ -60,11 +60,11 @@ no_symbol = record { kind = None; align = 0; size = 0; name_len = 0 }
 
 -- the symbol of an index in load order
 abbrev pub symbol_at : PlacedContents → ℕ → KeptSymbol
-symbol_at c i = get_or c.symbols.now i no_symbol
+symbol_at c i = get_or c.symbols i no_symbol
 
 -- where the symbols of section n end that come before symbol i
 unfoldable pub end_before : PlacedContents → ℕ → ℕ → ℕ
-end_before c n i = end_after (section_start c n) (boxes_in n (take i c.symbols.now))
+end_before c n i = end_after (section_start c n) (boxes_in n (take i c.symbols))
 
 -- the address of symbol i in section n
 abbrev pub address_within : PlacedContents → ℕ → ℕ → ℕ
@@ -76,11 +76,11 @@ symbol_address c i = option_map (λ n. address_within c n i) (home_of (symbol_at
 
 -- where the made contents of .rodata may start: after its symbols
 abbrev pub made_start : PlacedContents → ℕ
-made_start c = end_after (section_start c rodata) (boxes_in rodata c.symbols.now)
+made_start c = end_after (section_start c rodata) (boxes_in rodata c.symbols)
 
 -- the address of made content i
 abbrev pub made_address : PlacedContents → ℕ → ℕ
-made_address c i = address_in (made_start c) (map made_box c.made.now) i
+made_address c i = address_in (made_start c) (map made_box c.made) i
 
 -- what a list of addresses has at an index; 0 stands for none
 abbrev pub address_at : List ℕ → ℕ → Option ℕ
@@ -91,10 +91,10 @@ pub record IsLayout (c : PlacedContents) (l : Layout) : Type 0 where
   pub addrs : (n : ℕ) → text ≤ n → n ≤ placed_sections → of_section l.addrs n ≡ section_address c n
   pub sizes : (n : ℕ) → text ≤ n → n ≤ placed_sections → of_section l.sizes n ≡ section_size c n
   pub placed : ArePlaced l.sizes l.addrs
-  pub symbol_count : length l.symbols.items ≡ length c.symbols.now
-  pub symbols : (i : ℕ) → i < length c.symbols.now → address_at l.symbols.items i ≡ symbol_address c i
-  pub made_count : length l.made.items ≡ length c.made.now
-  pub made : (i : ℕ) → i < length c.made.now → slice_index l.made.items i ≡ made_address c i
+  pub symbol_count : length l.symbols.items ≡ length c.symbols
+  pub symbols : (i : ℕ) → i < length c.symbols → address_at l.symbols.items i ≡ symbol_address c i
+  pub made_count : length l.made.items ≡ length c.made
+  pub made : (i : ℕ) → i < length c.made → slice_index l.made.items i ≡ made_address c i
 
 -- the limits under which no sum of sizes is too great for a number
 abbrev pub symbol_limit : ℕ
@@ -105,9 +105,9 @@ table_limit = 2 ^ 58
 
 -- what may be placed
 pub record IsPlaceable (c : PlacedContents) : Type 0 where
-  pub few : length c.symbols.now ≤ symbol_limit
-  pub aligned : All (λ m. 0 < m.align) c.made.now
-  pub made : sum_by (λ m. m.align + m.size) c.made.now ≤ table_limit
+  pub few : length c.symbols ≤ symbol_limit
+  pub aligned : All (λ m. 0 < m.align) c.made
+  pub made : sum_by (λ m. m.align + m.size) c.made ≤ table_limit
   pub typelink : c.tables.typelink ≤ table_limit
   pub itablink : c.tables.itablink ≤ table_limit
   pub gopclntab : c.tables.gopclntab ≤ table_limit

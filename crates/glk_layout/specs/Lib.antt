@@ -1,3 +1,4 @@
+pub mod Placed
 pub mod Boxes
 pub mod Symbols
 pub mod Layout

@@ -6,7 +6,7 @@ use Rattle.glk_base.specs.declared.fault.Fault.TheVariants as fault
 use Rattle.glk_elf.specs.Sections.{written_data, noptrbss}
 use Rattle.glk_elf.specs.Image.{image_base}
 use Rattle.glk_elf.specs.Placing.{address_limit, names_limit}
-use Rattle.glk_layout.specs.declared.input.PlacedContents.{PlacedContents}
+use Rattle.glk_layout.specs.Placed.{PlacedContents}
 use Rattle.glk_layout.specs.declared.limits.TooLarge.{TooLarge}
 use Rattle.glk_layout.specs.declared.limits.SizeLimit.{SizeLimit}
 use Rattle.glk_layout.specs.declared.limits.SizeLimit.TheVariants.{File, Address, Names}
@@ -30,7 +30,7 @@ unfoldable pub excess : PlacedContents → Option TooLarge
 excess c =
     if nat_lt file_limit (file_end c) then Some (refusal_of File (file_end c))
     else (if nat_lt address_limit (last_address c) then Some (refusal_of Address (last_address c))
-    else (if nat_lt names_limit (names_room c.symbols.now) then Some (refusal_of Names (names_room c.symbols.now))
+    else (if nat_lt names_limit (names_room c.symbols) then Some (refusal_of Names (names_room c.symbols))
     else None))
 
 -- a refusal to place is the first limit that is passed

@@ -2,7 +2,7 @@
 use Rattle.std.specs.Prelude.{◌≡◌, ℕ, ◌≤◌, List}
 use Rattle.glk_elf.specs.Sections.{text, placed_sections}
 use Rattle.glk_elf.specs.Placing.{of_section, ArePlaced}
-use Rattle.glk_layout.specs.declared.input.PlacedContents.{PlacedContents}
+use Rattle.glk_layout.specs.Placed.{PlacedContents}
 use Rattle.glk_layout.specs.Layout.{section_address, section_size}
 
 -- these are the addresses and sizes of all sections

@@ -4,6 +4,7 @@ ghost use Rattle.glk_elf.specs.Sections.{written_data, noptrbss};
 ghost use Rattle.glk_elf.specs.Placing.{text_start};
 ghost use Rattle.glk_layout.specs.Layout.{section_end};
 ghost use Rattle.glk_layout.specs.Limits.{excess as excess_of};
+ghost use Rattle.glk_layout.specs.Placed.{placed_view};
 ghost use Rattle.glk_layout.specs.Symbols.{names_room};
 
 use crate::input::PlacedContents;
@@ -41,10 +42,10 @@ pub(crate) fn excess(
     names: u64,
 ) -> Option<TooLarge>
     requires some { text_start ≤ data_end }
-    requires data { data_end ≡ section_end contents.now written_data }
-    requires last { last_end ≡ section_end contents.now noptrbss }
+    requires data { data_end ≡ section_end (placed_view contents.now) written_data }
+    requires last { last_end ≡ section_end (placed_view contents.now) noptrbss }
     requires names { names ≡ names_room contents.now.symbols.now }
-    ensures { result ≡ excess_of contents.now }
+    ensures { result ≡ excess_of (placed_view contents.now) }
 {
     let _placed = contents;
     let file = data_end - IMAGE_BASE;

@@ -3,6 +3,7 @@ ghost use Rattle.std.specs.Prelude.{◌≡◌, ◌≤◌, ◌<◌, ◌+◌, ◌^
 ghost use Rattle.std.specs.List.{sum_by};
 ghost use Rattle.glk_layout.specs.Boxes.{end_after, address_in};
 ghost use Rattle.glk_layout.specs.Layout.{made_box, table_size as table_size_of, table_limit, IsPlaceable};
+ghost use Rattle.glk_layout.specs.Placed.{placed_view};
 
 use crate::input::{MadeContent, PlacedContents};
 use glk_base::least_multiple;
@@ -30,7 +31,7 @@ pub(crate) fn place_made(made: &[MadeContent], start: u64, places: &mut [u64]) -
 
 /// The size of a section that is one table; 0 for the others.
 pub(crate) fn table_size(contents: &PlacedContents<'_>, number: u8) -> u64
-    requires { IsPlaceable contents.now }
+    requires { IsPlaceable (placed_view contents.now) }
     ensures value { result ≡ table_size_of contents.now.tables number }
     ensures small { result ≤ table_limit }
 {

@@ -6,6 +6,7 @@ ghost use Rattle.glk_layout.specs.Boxes.{end_after};
 ghost use Rattle.glk_layout.specs.Symbols.{home_of as home_of_symbol, boxes_in};
 ghost use Rattle.glk_layout.specs.Layout.{section_boxes, section_start, section_end, address_at, IsLayout, IsPlaceable, symbol_limit, table_limit};
 ghost use Rattle.glk_layout.specs.Limits.{excess as excess_of, IsFaultOf};
+ghost use Rattle.glk_layout.specs.Placed.{placed_view};
 ghost use Rattle.glk_layout.specs.Steps.{PlacesIn, PlacesMade, ArePlacedTo};
 ghost use Rattle.glk_layout.specs.Sections.{AreRanges};
 
@@ -66,14 +67,14 @@ fn place_section(
     symbols: &mut [u64],
     made: &mut [u64],
 ) -> u64
-    requires placeable { IsPlaceable contents.now }
+    requires placeable { IsPlaceable (placed_view contents.now) }
     requires symbols { length symbols.old ≡ length contents.now.symbols.now }
     requires made { length made.old ≡ length contents.now.made.now }
     requires low { start ≤ 2 ^ 62 }
-    ensures end { result ≡ end_after start (section_boxes contents.now number) }
+    ensures end { result ≡ end_after start (section_boxes (placed_view contents.now) number) }
     ensures small { result ≤ start + 2 ^ 57 + table_limit }
     ensures symbols { PlacesIn number start contents.now.symbols.now symbols.old symbols.new }
-    ensures made { PlacesMade contents.now number start made.old made.new }
+    ensures made { PlacesMade (placed_view contents.now) number start made.old made.new }
 {
     let end = place_symbols(contents.symbols, number, start, symbols);
     if number == Section::Rodata.number() {
@@ -85,11 +86,11 @@ fn place_section(
 
 // Places all sections, one after the other.
 fn place_sections(contents: &PlacedContents<'_>, symbols: &mut [u64], made: &mut [u64]) -> Ranges
-    requires placeable { IsPlaceable contents.now }
-    requires before { ArePlacedTo contents.now 0 symbols.old made.old }
-    ensures after { ArePlacedTo contents.now noptrbss symbols.new made.new }
-    ensures ranges { AreRanges contents.now result.addrs result.sizes }
-    ensures small { section_end contents.now noptrbss ≤ 2 ^ 63 }
+    requires placeable { IsPlaceable (placed_view contents.now) }
+    requires before { ArePlacedTo (placed_view contents.now) 0 symbols.old made.old }
+    ensures after { ArePlacedTo (placed_view contents.now) noptrbss symbols.new made.new }
+    ensures ranges { AreRanges (placed_view contents.now) result.addrs result.sizes }
+    ensures small { section_end (placed_view contents.now) noptrbss ≤ 2 ^ 63 }
 {
     let mut addrs = [0; PLACED_SECTIONS];
     let mut sizes = [0; PLACED_SECTIONS];
@@ -112,10 +113,10 @@ fn place_sections(contents: &PlacedContents<'_>, symbols: &mut [u64], made: &mut
 /// # Errors
 /// The first limit that is passed: of the file, of the addresses, of the names. Out of memory.
 pub fn place(alloc: Global, contents: &PlacedContents<'_>) -> Result<Layout, Fault<TooLarge>>
-    requires { IsPlaceable contents.now }
-    ensures layout { IfOk result (IsLayout contents.now) }
-    ensures small { OnOk result (excess_of contents.now ≡ None) }
-    ensures fault { IfErr result (IsFaultOf contents.now) }
+    requires { IsPlaceable (placed_view contents.now) }
+    ensures layout { IfOk result (IsLayout (placed_view contents.now)) }
+    ensures small { OnOk result (excess_of (placed_view contents.now) ≡ None) }
+    ensures fault { IfErr result (IsFaultOf (placed_view contents.now)) }
 {
     let mut symbols = vec![in alloc; 0u64; contents.symbols.len()]?;
     let mut made = vec![in alloc; 0u64; contents.made.len()]?;

@@ -1,3 +1,4 @@
+use Rattle.glk_layout.specs.Placed.{placed_view}
 use Rattle.std.proofs.Common.{◌≡◌, ◌≤◌, ◌+◌, ℕ, set, get_or, sym, refl, subst, arith}
 use Rattle.glk_base.specs.Multiples.{IsLeastMultiple}
 use Rattle.glk_layout.specs.Layout.{section_boxes, section_end}
@@ -10,7 +11,7 @@ use Rattle.glk_layout.proofs.placing.place_sections.Goals as goal
 
 pub loop-index-init : goal.loop-index-init
 loop-index-init c = record {
-  ends = sym (first_end c.args.contents.now);
+  ends = sym (first_end (placed_view c.args.contents.now));
   small = omega arith;
   addrs_count = refl;
   sizes_count = refl;
@@ -37,13 +38,13 @@ pub overflow_sub-sizes : goal.overflow_sub-sizes
 overflow_sub-sizes c =
     let P : ℕ → Type 0 = λ e. c.least_multiple-start.result ≤ e in
     subst P (sym c.place_section-end.ensures.end)
-    (end_above c.least_multiple-start.result (section_boxes c.args.contents.now (c.loop-index.index + 1))
-    (section_aligned c.args.contents.now (c.loop-index.index + 1) c.requires.placeable))
+    (end_above c.least_multiple-start.result (section_boxes (placed_view c.args.contents.now) (c.loop-index.index + 1))
+    (section_aligned (placed_view c.args.contents.now) (c.loop-index.index + 1) c.requires.placeable))
 
 pub loop-index-preserved : goal.loop-index-preserved
 loop-index-preserved c =
     let Multiple : ℕ → Type 0 = λ m. IsLeastMultiple m c.loop-index.end c.least_multiple-start.result in
-    sections_next c.args.contents.now c.loop-index.index (c.loop-index.index + 1) c.loop-index.end c.least_multiple-start.result
+    sections_next (placed_view c.args.contents.now) c.loop-index.index (c.loop-index.index + 1) c.loop-index.end c.least_multiple-start.result
     c.place_section-end.result c.loop-index.addrs c.loop-index.sizes c.loop-index.symbols c.loop-index.made
     c.place_section-end.new.symbols c.place_section-end.new.made (omega arith) c.loop-index-test.true c.loop-index.invariant
     (subst Multiple c.start_multiple.ensures.value c.least_multiple-start.ensures)
@@ -54,22 +55,22 @@ loop-index-preserved c =
 pub returns-clause-after : goal.returns-clause-after
 returns-clause-after c =
     let all : c.loop-index.index ≡ noptrbss = omega arith in
-    let P : ℕ → Type 0 = λ k. ArePlacedTo c.args.contents.now k c.loop-index.symbols c.loop-index.made in
+    let P : ℕ → Type 0 = λ k. ArePlacedTo (placed_view c.args.contents.now) k c.loop-index.symbols c.loop-index.made in
     subst P all c.loop-index.invariant.placed
 
 pub returns-clause-ranges : goal.returns-clause-ranges
 returns-clause-ranges c =
     let last : c.index-3.result ≡ c.index-2.result = omega (arith, c.index-2.ensures.number, c.index-3.ensures.number) in
-    let P : ℕ → Type 0 = λ j. AreRanges c.args.contents.now (set c.loop-index.addrs c.index-2.result (get_or c.loop-index.addrs c.index.result 0)) (set c.loop-index.sizes j c.args.contents.now.tables.tbss) in
+    let P : ℕ → Type 0 = λ j. AreRanges (placed_view c.args.contents.now) (set c.loop-index.addrs c.index-2.result (get_or c.loop-index.addrs c.index.result 0)) (set c.loop-index.sizes j c.args.contents.now.tables.tbss) in
     subst P (sym last)
-    (all_ranges c.args.contents.now c.requires.placeable c.loop-index.end c.loop-index.index c.index.result c.index-2.result
+    (all_ranges (placed_view c.args.contents.now) c.requires.placeable c.loop-index.end c.loop-index.index c.index.result c.index-2.result
     c.loop-index.addrs c.loop-index.sizes c.loop-index.symbols c.loop-index.made (omega arith) c.loop-index.invariant
     c.index.ensures.number c.index-2.ensures.number)
 
 pub returns-clause-small : goal.returns-clause-small
 returns-clause-small c =
     let all : c.loop-index.index ≡ noptrbss = omega arith in
-    let P : ℕ → Type 0 = λ k. c.loop-index.end ≡ section_end c.args.contents.now k in
-    let ends : c.loop-index.end ≡ section_end c.args.contents.now noptrbss = subst P all c.loop-index.invariant.ends in
+    let P : ℕ → Type 0 = λ k. c.loop-index.end ≡ section_end (placed_view c.args.contents.now) k in
+    let ends : c.loop-index.end ≡ section_end (placed_view c.args.contents.now) noptrbss = subst P all c.loop-index.invariant.ends in
     let s = c.loop-index.invariant.small in
     omega (arith, ends)
