@@ -8,3 +8,4 @@ pub mod Rowing
 pub mod Places
 pub mod CallLemmas
 pub mod Methods
+pub mod MetCalls

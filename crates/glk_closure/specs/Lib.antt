@@ -7,3 +7,4 @@ pub mod Rows
 pub mod CallTable
 pub mod Marks
 pub mod Search
+pub mod Facts

@@ -1,5 +1,6 @@
 // The calls of methods, each with a number.
-ghost use Rattle.std.specs.Prelude.{◌≡◌, [], IfOk};
+ghost use Rattle.std.specs.Prelude.{◌≡◌, [], IfOk, MatchOption};
+ghost use Rattle.std.specs.List.{Contains};
 ghost use Rattle.glk_closure.specs.Reach.{Sig, Named, Reflect};
 ghost use Rattle.glk_closure.specs.Rows.{Numbers, Stands};
 ghost use Rattle.glk_closure.specs.CallTable.{facts_of, name_eq, signature_eq};
@@ -120,5 +121,29 @@ impl<'a> CallTable<'a> {
         self.calls.push(Call::Reflect)?;
         self.reflection = Some(row);
         Ok(row)
+    }
+
+    /// The row of a name, if it has one.
+    pub(crate) fn named_at(&self, name: &[u8]) -> Option<u32>
+        ensures { MatchOption result (Contains self.now (Named name.now) → ⊥)
+            (λ row. Stands self.now row (Named name.now)) }
+    {
+        row_of_name(&self.names, &Name { bytes: name })
+    }
+
+    /// The row of a name and type, if it has one.
+    pub(crate) fn sig_at(&self, name: &[u8], of: u32) -> Option<u32>
+        ensures { MatchOption result (Contains self.now (Sig name.now of) → ⊥)
+            (λ row. Stands self.now row (Sig name.now of)) }
+    {
+        let named = row_of_name(&self.names, &Name { bytes: name })?;
+        row_of_signature(&self.signatures, Signature { named, of })
+    }
+
+    /// The row of reflection, if it has one.
+    pub(crate) fn reflection_at(&self) -> Option<u32>
+        ensures { MatchOption result (Contains self.now Reflect → ⊥) (λ row. Stands self.now row Reflect) }
+    {
+        self.reflection
     }
 }

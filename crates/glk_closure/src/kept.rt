@@ -13,8 +13,8 @@ use std::marker::Model;
 /// it is. It takes two bytes a key.
 #[derive(Drop)]
 pub struct KeptSet {
-    kept: MarkTable,
-    iface: MarkTable,
+    pub(crate) kept: MarkTable,
+    pub(crate) iface: MarkTable,
 }
 
 impl Model for KeptSet {

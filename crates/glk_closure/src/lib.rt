@@ -5,6 +5,7 @@
 mod call;
 mod call_table;
 mod effect;
+mod facts;
 mod kept;
 mod laws;
 mod mark_table;
@@ -14,6 +15,7 @@ mod program;
 mod search;
 
 pub use effect::{Effect, Targets};
+pub use facts::{KeptFacts, kept_facts};
 pub use kept::{KeptSet, kept_set};
 pub use laws::least_reach;
 pub use program::Program;

@@ -40,9 +40,9 @@ pub fn is_defined(merged: &Merged<'_>, key: u32) -> bool
     chosen(merged, key).is_some()
 }
 
-// The row of the chosen definition of a key in an object.
+/// The row of the chosen definition of a key in an object.
 #[tactic(auto, unfolding(crate::specs::Chosen::definition_row))]
-fn definition(merged: &Merged<'_>, key: u32) -> Option<SymId>
+pub fn definition(merged: &Merged<'_>, key: u32) -> Option<SymId>
     requires { key < row_count merged.now.program }
     ensures value { row_numbers result ≡ definition_row merged.now.program key }
     ensures definition { IsDefinition merged.now.program (row_numbers result) }
@@ -123,8 +123,8 @@ pub fn data<'a>(merged: &Merged<'a>, key: u32) -> &'a [u8]
     }
 }
 
-// The symbol that is meant, if one is.
-pub(crate) fn target_symbol(target: Target) -> Option<TargetSymbol>
+/// The symbol that is meant, if one is.
+pub fn target_symbol(target: Target) -> Option<TargetSymbol>
     ensures { result ≡ target_symbol_of target }
 {
     match target {
