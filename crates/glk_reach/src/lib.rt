@@ -12,6 +12,6 @@ pub use laws::{first_faults_are_first, reach_faults_are_one};
 pub use merged_symbols::MergedSymbols;
 pub use relocations::RowRelocations;
 pub use symbols::{
-    calls_by_reflection, data, definition, is_defined, is_interface_table, is_type, key_relocations,
-    target_symbol,
+    calls_by_reflection, data, definition, is_defined, is_interface_table, is_type,
+    key_relocations, target_symbol,
 };
