@@ -1,0 +1,5 @@
+pub mod Within
+pub mod Added
+pub mod Counts
+pub mod MethodSteps
+pub mod Parts

@@ -1,0 +1,2 @@
+pub mod ChosenRows
+pub mod KeptLaws
