@@ -1,0 +1,8 @@
+mod NextChunk
+mod PlaceLists
+mod FieldSteps
+mod Sound
+mod OwnFields
+mod Windows
+mod SymbolWindows
+mod ImageWindows

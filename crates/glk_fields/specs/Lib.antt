@@ -1,0 +1,5 @@
+pub mod Values
+pub mod Places
+pub mod Ready
+pub mod Added
+pub mod Laws

@@ -1,0 +1,5 @@
+mod IndexSteps
+pub mod Bounds
+pub mod SymbolLaws
+mod Placeable
+mod PlaceSteps
