@@ -12,3 +12,4 @@ pub mod FileSteps
 pub mod RecordSteps
 pub mod Assembly
 pub mod WitnessLemmas
+pub mod MeasureLemmas

@@ -9,3 +9,4 @@ pub mod Building
 pub mod Parts
 pub mod Witness
 pub mod Lists
+pub mod Measures

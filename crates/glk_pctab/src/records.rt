@@ -283,3 +283,21 @@ pub(crate) fn records_end(functions: &[Function<'_>]) -> Option<u64>
     }
     Some(at)
 }
+
+/// The length of functab and the records.
+#[tactic(auto, unfolding(crate::specs::Building::end_from))]
+pub(crate) fn records_size(functions: &[Function<'_>]) -> u64
+    requires few { length functions.now < 2 ^ 32 }
+    requires small { AllAreSmall (functions_view functions.now) }
+    ensures value { result
+        ≡ end_from (8 * length functions.now + 4) (functions_view functions.now) }
+    ensures small { result < 2 ^ 53 }
+{
+    let mut at = 8 * functions.len() as u64 + 4;
+    let mut rest = functions;
+    while let [function, after @ ..] = rest {
+        at = next_multiple(at) + record_length(function);
+        rest = after;
+    }
+    at
+}

@@ -311,21 +311,6 @@ fn lists_of<'a>(alloc: Global, t: &Pclntab<'a>) -> Result<Lists<'a>, Fault<Secti
     }
 }
 
-/// How long the section `.gopclntab` of an image's functions is, in bytes. It does not depend on where
-/// functions and data are, so it can be asked for before they are placed. The time and the memory are those of `build`, but
-/// for the bytes.
-///
-/// # Errors
-/// The section would have 2^32 bytes or more; or out of memory.
-pub fn section_size(alloc: Global, t: &Pclntab<'_>) -> Result<u64, Fault<SectionTooLong>>
-    requires { CanWriteAll (view t.now) }
-    ensures size { IfOk result (λ size. size ≡ length (section (view t.now))) }
-    ensures refuses { IfErr result (Refuses (view t.now)) }
-{
-    let lists = lists_of(alloc, t)?;
-    Ok(lists.parts.end)
-}
-
 /// The section `.gopclntab` and the inline trees of an image's functions. Names, files and pc tables
 /// stand once each, however often they are given. It takes a pass over the functions for each part,
 /// and memory for the bytes and for the lists of first use.

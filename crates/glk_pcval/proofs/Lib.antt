@@ -1,6 +1,6 @@
 mod TableLemmas
 mod FaultLemmas
 mod PrefixLemmas
-mod SoundLemmas
+pub mod SoundLemmas
 mod EncodeLemmas
 mod LawLemmas

@@ -1,0 +1,3 @@
+pub mod Auxes
+pub mod Tables
+pub mod Checks

@@ -1,0 +1,4 @@
+pub mod Memories
+pub mod Told
+pub mod Starts
+pub mod Fields

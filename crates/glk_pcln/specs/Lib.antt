@@ -1,0 +1,3 @@
+pub mod ModuleData
+pub mod Pieces
+pub mod Laws
