@@ -1,2 +1,7 @@
 mod Edges
 mod Counts
+pub mod Definitions
+pub mod Positions
+pub mod Awaited
+pub mod Roots
+pub mod TaskKeys

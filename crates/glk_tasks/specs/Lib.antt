@@ -1,2 +1,3 @@
 pub mod Tasks
 pub mod Lists
+pub mod Laws

@@ -1,0 +1,3 @@
+pub mod OneSchedule
+pub mod SomeSchedule
+pub mod Steps
