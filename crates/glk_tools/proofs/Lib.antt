@@ -4,3 +4,6 @@ pub mod MustAnswers
 pub mod MkobjSteps
 pub mod DumpSteps
 pub mod NmSteps
+pub mod ImageLaws
+pub mod Addr2lineSteps
+pub mod InputSteps

@@ -1,10 +1,8 @@
 -- `nm`: its file is read, and the symbols of its image are printed.
-use Rattle.std.proofs.Common.{◌≡◌, ◌∙◌, List, ℕ, Ok, Err, refl, sym, ap, subst, inl, inr, arith}
+use Rattle.std.proofs.Common.{◌≡◌, ◌∙◌, List, ℕ, Ok, Err, refl, sym, ap, subst, inl, inr}
 use Rattle.std.specs.Prelude.{Result}
-use Rattle.std.proofs.lemmas.Bool.{cases_lt}
 use Rattle.glk_base.specs.declared.fault.Fault.{Fault}
 use Rattle.glk_base.specs.declared.fault.Fault.TheVariants as fault
-use Rattle.glk_base.proofs.RuleLaws.{one_first}
 use Rattle.glk_io.specs.Contents.{IfKnown}
 use Rattle.glk_io.specs.Changes.{FileState, SinkState}
 use Rattle.glk_cause.specs.declared.cause.Cause.{Cause}
@@ -15,23 +13,13 @@ use Rattle.glk_cause.specs.Reading.{AnswersByReading, IsOfPath, IsWhole}
 use Rattle.glk_cause.proofs.ChainLaws.{then_one}
 use Rattle.glk_cause.proofs.ReadingLaws.{always, always_known, reading_stopped}
 use Rattle.glk_cause.proofs.PrintingLaws.{printing_stopped, printing_done, printing_failed}
-use Rattle.glk_elf.specs.ReaderFile.{IsElf}
-use Rattle.glk_elf.specs.ReaderRules.{Breaks}
-use Rattle.glk_elf.proofs.ReaderIntact.{refused}
 use Rattle.glk_nm.specs.declared.options.NmOptions.{NmOptions}
 use Rattle.glk_nm.proofs.ListingLemmas.{one_text}
 use Rattle.glk_tools.specs.Stdout.{stdout}
-use Rattle.glk_tools.specs.Nm.{image_limit, IsNoImage, IsSymbolsOf, GivesSymbols, IsOneListing, NmAllows, ListsSymbols, NmAnswer, NmUnlessIoFails}
+use Rattle.glk_tools.specs.Images.{image_limit}
+use Rattle.glk_tools.proofs.ImageLaws.{one_refusal, no_image}
+use Rattle.glk_tools.specs.Nm.{IsSymbolsOf, GivesSymbols, IsOneListing, NmAllows, ListsSymbols, NmAnswer, NmUnlessIoFails}
 use Rattle.glk_tools.proofs.MustAnswers.{printing_must}
-
-one_refusal : (path file : List ℕ) (a b : Cause) → IsNoImage path file a → IsNoImage path file b → a ≡ b
-one_refusal path file a b h k =
-    let same = one_first (Breaks file) h.rule k.rule h.offset k.offset h.broken k.broken in
-    h.refusal_is ∙ ap (λ r. cause.ElfBad path r h.offset) same.rules ∙ ap (λ o. cause.ElfBad path k.rule o) same.offsets ∙ sym k.refusal_is
-
--- an image is not refused
-no_image : (path file : List ℕ) (refusal : Cause) → IsElf file → IsNoImage path file refusal → ⊥
-no_image path file refusal elf h = refused file h.rule h.offset h.broken elf
 
 one_of_bytes : (opts : NmOptions) (path file : List ℕ) (a b : Result (List ℕ) Cause) → IsSymbolsOf opts path file a → IsSymbolsOf opts path file b → a ≡ b
 one_of_bytes opts path file (Ok a) (Ok b) x y = ap (λ t. Ok t) (one_text opts file a b x.1 y.1)

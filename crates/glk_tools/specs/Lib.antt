@@ -5,3 +5,6 @@ pub mod Stdout
 pub mod Mkobj
 pub mod Dump
 pub mod Nm
+pub mod Images
+pub mod Stdin
+pub mod Addr2line

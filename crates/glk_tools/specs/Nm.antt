@@ -1,34 +1,21 @@
 -- What `nm` answers.
-use Rattle.std.specs.Prelude.{◌≡◌, ◌⊎◌, ℕ, ◌^◌, List, Result, Ok, Err}
+use Rattle.std.specs.Prelude.{◌≡◌, ◌⊎◌, ℕ, List, Result, Ok, Err}
 use Rattle.glk_base.specs.declared.fault.Fault.{Fault}
 use Rattle.glk_base.specs.declared.fault.Fault.TheVariants as fault
-use Rattle.glk_base.specs.Rules.{FirstBroken}
 use Rattle.glk_io.specs.Counts.{Rose}
 use Rattle.glk_io.specs.Contents.{Contents, IfKnown}
 use Rattle.glk_io.specs.Changes.{FileState, SinkState, SinkUnchanged}
 use Rattle.glk_cause.specs.declared.cause.Cause.{Cause}
-use Rattle.glk_cause.specs.declared.cause.Cause.TheVariants as cause
 use Rattle.glk_cause.specs.Sorts.{Sort, by_reads, by_writes, of_file, of_input}
 use Rattle.glk_cause.specs.Chain.{Then, IsOne}
 use Rattle.glk_cause.specs.Reading.{IsWhole}
 use Rattle.glk_cause.specs.Printing.{AnswersByPrinting}
 use Rattle.glk_elf.specs.ReaderFile.{IsElf}
-use Rattle.glk_elf.specs.ReaderRules.{Breaks}
 use Rattle.glk_nm.specs.Listing.{IsNmText}
 use Rattle.glk_nm.specs.declared.options.NmOptions.{NmOptions}
 use Rattle.glk_tools.specs.MustAnswer.{MustAnswer}
+use Rattle.glk_tools.specs.Images.{image_limit, IsNoImage}
 use Rattle.glk_tools.specs.Stdout.{stdout, Prints}
-
--- how long an image may be
-abbrev pub image_limit : ℕ
-image_limit = 2 ^ 30
-
--- the refusal of the file at a path that is no image: its first broken rule
-pub record IsNoImage (path file : List ℕ) (refusal : Cause) : Type 0 where
-  pub rule : ℕ
-  pub offset : ℕ
-  pub broken : FirstBroken (Breaks file) rule offset
-  pub refusal_is : refusal ≡ cause.ElfBad path rule offset
 
 -- what the bytes of the file at a path give: the lines of an image's symbols, or its refusal
 abbrev pub IsSymbolsOf : NmOptions → List ℕ → List ℕ → Result (List ℕ) Cause → Type 0

@@ -12,7 +12,7 @@ use glk_nm::NmOptions;
 use std::alloc::Global;
 
 // How long an image may be.
-const IMAGE_LIMIT: u64 = 1 << 30;
+pub(crate) const IMAGE_LIMIT: u64 = 1 << 30;
 
 /// Prints the lines of the symbols of the image at a path on standard output, as `glk_nm::nm` has
 /// them.

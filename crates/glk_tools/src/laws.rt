@@ -1,5 +1,6 @@
 // What holds of all files: laws of the definitions, which are proved with these functions and cost
 // nothing when they run.
+ghost use Rattle.glk_tools.specs.Addr2line.{IsOneAnswering};
 ghost use Rattle.glk_tools.specs.Dump.{IsOneDump};
 ghost use Rattle.glk_tools.specs.Mkobj.{IsOneArchive};
 ghost use Rattle.glk_tools.specs.Nm.{IsOneListing};
@@ -23,4 +24,9 @@ pub fn one_dump()
 /// The image at a path gives one listing of its symbols, or one first refusal, and not both.
 pub fn one_listing()
     ensures { IsOneListing }
+{}
+
+/// The image at a path and standard input give one text of answers, or one first refusal, and not both.
+pub fn one_answering()
+    ensures { IsOneAnswering }
 {}
