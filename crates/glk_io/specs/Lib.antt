@@ -5,4 +5,3 @@ pub mod Changes
 pub mod Files
 pub mod Paths
 pub mod Memory
-pub mod System

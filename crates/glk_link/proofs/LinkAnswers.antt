@@ -19,6 +19,8 @@ use Rattle.glk_cause.proofs.WritingLaws.{writing_stopped, writing_done, writing_
 use Rattle.glk_arena.specs.ConfigViews.{file_in}
 use Rattle.glk_arena.specs.World.{Package}
 use Rattle.glk_arena.specs.Waves.{IsLoad, IsOneLoad, IsPackagePath, IsOfPackages}
+use Rattle.glk_init_lists.specs.Schedules.{IsOneSchedule}
+use Rattle.glk_init_lists.proofs.Steps.{refusals_of_link}
 use Rattle.glk_link.specs.declared.options.LinkOptions.{LinkOptions}
 use Rattle.glk_link.specs.declared.options.Report.{Report}
 use Rattle.glk_link.specs.Options.{AsksUnbuilt}
@@ -29,17 +31,17 @@ use Rattle.glk_link.specs.Merges.{clash_refusal}
 use Rattle.glk_link.specs.Outputs.{told_by, program_by}
 use Rattle.glk_link.specs.declared.config_files.ConfigFiles.{ConfigFiles}
 use Rattle.glk_link.specs.declared.inputs.Inputs.{Inputs}
-use Rattle.glk_link.specs.Passes.{Linked, LinksWorld, LinksPackages, load_inputs, program_with, LoadsPackages, IsLink, report_of}
+use Rattle.glk_link.specs.Passes.{Linked, LinksWorld, LinksProgram, LinksPackages, load_inputs, program_with, LoadsPackages, IsLink, report_of}
 use Rattle.glk_link.specs.Answers.{IsPackageFile, MayRefuse, MayRefuseToLoad, ToldAnswer, PackagesAnswer, LinkAnswer, MustAnswer, AnswersUnlessIoFails}
 use Rattle.glk_link.proofs.LinkOnce.{one_link}
 use Rattle.glk_link.proofs.ToldLaws.{told_files}
 
 -- The table of answers is complete.
 
-module _ (one : IsOneLoad) (old new : FileState) (opts : LinkOptions) where
+module _ (one : IsOneLoad) (schedule : IsOneSchedule) (old new : FileState) (opts : LinkOptions) where
   due : (files : Contents) (a b : Result Linked Cause) (r : Result Report (Fault Cause)) → IsLink files opts a → IsLink files opts b
       → MustAnswer old new a r → MustAnswer old new b r
-  due files a b r x y h = subst (λ (c : Result Linked Cause). MustAnswer old new c r) (one_link one files opts a b x y) h
+  due files a b r x y h = subst (λ (c : Result Linked Cause). MustAnswer old new c r) (one_link one schedule files opts a b x y) h
 
   refusal_due : (refusal : Cause) → IfKnown old.contents (λ files. IsLink files opts (Err refusal)) → AnswersUnlessIoFails old new opts (Err (fault.Bad refusal))
   refusal_due refusal h =
@@ -187,11 +189,15 @@ clash_only l (Some clash) refusal e = subst IsOfLink (same (clash_refusal l clas
     same : (a b : Cause) → (let o : Option Cause = Some a in o) ≡ Some b → a ≡ b
     same a b is = cc
 
+program_only : RefusesOnly IsOfLink LinksProgram
+program_only = then_only IsOfLink (demands_only IsOfLink (λ l. refl)) (λ l refusal h. world_only l.entry l.world refusal h)
+
 packages_only : RefusesOnly IsOfLink LinksPackages
 packages_only =
     then_only IsOfLink (then_only IsOfLink (demands_only IsOfLink (λ l. refl)) (demands_only IsOfLink (λ l. refl)))
     (then_only IsOfLink (finds_only IsOfLink (λ l refusal is. clash_only l (first_clash l) refusal is))
-    (then_only IsOfLink (demands_only IsOfLink (λ l. refl)) (λ l refusal h. world_only l.entry l.world refusal h)))
+    (then_only IsOfLink refusals_of_link
+    (then_only IsOfLink (demands_only IsOfLink (λ s. refl)) (λ s refusal h. program_only s.program refusal h))))
 
 pub not_linked : {C : Type 0} (opts : LinkOptions) (old new : FileState) (l : Program) (view : C → Linked) (e : Fault Cause)
     → FilesUnchanged old new × IfKnown old.contents (λ files. (answer : Result Linked Cause) → LinksPackages l answer → IsLink files opts answer)

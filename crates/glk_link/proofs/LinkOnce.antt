@@ -7,6 +7,7 @@ use Rattle.glk_cause.specs.Chain.{IsOneAt, IsOne}
 use Rattle.glk_cause.proofs.ChainLaws.{then_one, demands_one, gives_one, finds_one, then_given, demands_given, gives_given, finds_given}
 use Rattle.glk_arena.specs.World.{Package}
 use Rattle.glk_arena.specs.Waves.{IsOneLoad}
+use Rattle.glk_init_lists.specs.Schedules.{IsOneSchedule}
 use Rattle.glk_keys.specs.Programs.{Program}
 use Rattle.glk_link.specs.Plain.{IsPlain}
 use Rattle.glk_link.specs.Reach.{AreKept}
@@ -87,35 +88,37 @@ world_one entry world =
 some_cause : (a b : Cause) (found : Option Cause) → found ≡ Some a → found ≡ Some b → a ≡ b
 some_cause a b found e f = let both : Some a ≡ Some b = sym e ∙ f in cc
 
-packages_one : IsOne LinksPackages
-packages_one l =
+packages_one : IsOneSchedule → IsOne LinksPackages
+packages_one schedule l =
     then_one l (then_one l (demands_one l) (λ m few. demands_one m)) (λ m within.
     then_one m (finds_one m (λ a b e f. some_cause a b _ e f)) (λ n merged.
-    then_one n (demands_one n) (λ o known. world_one o.entry o.world)))
+    then_one n (schedule n) (λ s scheduled.
+    then_one s (demands_one s) (λ t none.
+    then_one t.program (demands_one t.program) (λ o known. world_one o.entry o.world)))))
 
 loads_packages_one : IsOneLoad → (files : Contents) → IsOne (LoadsPackages files)
 loads_packages_one one files opts =
     then_one opts (demands_one opts) (λ o supported.
     then_one o (told_one files o) (λ told is_told. puts_one program_with told (one (load_inputs told) files)))
 
-pub one_link : IsOneLoad → IsOneLink
-one_link one files opts = then_one opts (loads_packages_one one files opts) (λ l loaded. packages_one l)
+pub one_link : IsOneLoad → IsOneSchedule → IsOneLink
+one_link one schedule files opts = then_one opts (loads_packages_one one files opts) (λ l loaded. packages_one schedule l)
 
-pub one_first : IsOneLoad → IsOneFirst
-one_first one files opts None None x y = refl
-one_first one files opts None (Some b) x y = let same = one_link one files opts (Ok x.0) (Err b) x.1 y in absurd (clash same)
+pub one_first : IsOneLoad → IsOneSchedule → IsOneFirst
+one_first one schedule files opts None None x y = refl
+one_first one schedule files opts None (Some b) x y = let same = one_link one schedule files opts (Ok x.0) (Err b) x.1 y in absurd (clash same)
   where
     clash : (let r : Result Linked Cause = Ok x.0 in r) ≡ Err b → ⊥
     clash e = cc
-one_first one files opts (Some a) None x y = let same = one_link one files opts (Ok y.0) (Err a) y.1 x in absurd (clash same)
+one_first one schedule files opts (Some a) None x y = let same = one_link one schedule files opts (Ok y.0) (Err a) y.1 x in absurd (clash same)
   where
     clash : (let r : Result Linked Cause = Ok y.0 in r) ≡ Err a → ⊥
     clash e = cc
-one_first one files opts (Some a) (Some b) x y = let same = one_link one files opts (Err a) (Err b) x y in cc
+one_first one schedule files opts (Some a) (Some b) x y = let same = one_link one schedule files opts (Err a) (Err b) x y in cc
 
-pub one_image : IsOneLoad → IsOneImage
-one_image one files opts a b x y =
-    let same = one_link one files opts (Ok x.0) (Ok y.0) x.1 y.1 in
+pub one_image : IsOneLoad → IsOneSchedule → IsOneImage
+one_image one schedule files opts a b x y =
+    let same = one_link one schedule files opts (Ok x.0) (Ok y.0) x.1 y.1 in
     sym x.2 ∙ ap (λ l. l.image) (same_linked x.0 y.0 same) ∙ y.2
   where
     same_linked : (m n : Linked) → (let r : Result Linked Cause = Ok m in r) ≡ Ok n → m ≡ n

@@ -1,5 +1,5 @@
 -- There is an answer of each link: an image, or a first refusal.
-use Rattle.std.proofs.Common.{◌≡◌, ◌<◌, ◌≤◌, ◌⊎◌, ℕ, List, All, length, Option, Some, None, Ok, Err, inl, inr, refl, sym, ap, ◌∙◌, subst, arith}
+use Rattle.std.proofs.Common.{◌≡◌, ◌<◌, ◌≤◌, ◌⊎◌, ℕ, List, [], ◌∷◌, All, length, Option, Some, None, Ok, Err, inl, inr, refl, sym, ap, ◌∙◌, subst, arith}
 use Rattle.std.specs.Prelude.{Result}
 use Rattle.std.specs.Option.{option_map}
 use Rattle.std.specs.List.{Contains}
@@ -18,6 +18,8 @@ use Rattle.glk_obj.specs.Numbers.{index_of, kind_of, standard_number}
 use Rattle.glk_obj.specs.declared.kinds.RelocKind.{RelocKind}
 use Rattle.glk_obj.specs.declared.kinds.RelocKind.TheVariants.{Call, PcRel}
 use Rattle.glk_obj.proofs.KindNumbers.{index_injective}
+use Rattle.glk_init_lists.specs.Schedules.{Scheduled, IsSomeSchedule}
+use Rattle.glk_init_lists.proofs.Steps.{scheduled_program}
 use Rattle.glk_keys.specs.Clashes.{first_clash}
 use Rattle.glk_keys.specs.Rows.{row_count, row_limit}
 use Rattle.glk_keys.specs.Programs.{Program}
@@ -28,7 +30,7 @@ use Rattle.glk_link.specs.Reach.{IsEntry, AreKept, Misses}
 use Rattle.glk_link.specs.Refusals.{IsFirstMiss, undefined_call}
 use Rattle.glk_link.specs.Built.{IsBuilt}
 use Rattle.glk_link.specs.Image.{IsStart}
-use Rattle.glk_link.specs.Passes.{Kept, Linked, IsWithinLimits, IsMerged, HasKnownConfig, IsReach, Reaches, IsUndefined, IsLinkOf, Keeps, LinksWorld, LinksPackages, LoadsPackages, IsLink, FirstRefusal, load_inputs, program_with, IsSomeFirst}
+use Rattle.glk_link.specs.Passes.{Kept, Linked, IsWithinLimits, IsMerged, HasNoTasks, HasKnownConfig, IsReach, Reaches, IsUndefined, IsLinkOf, Keeps, LinksWorld, LinksPackages, LoadsPackages, IsLink, FirstRefusal, load_inputs, program_with, IsSomeFirst}
 use Rattle.std.proofs.lemmas.Bool.{cases_order}
 use Rattle.glk_package.proofs.Decided.{IsDecided, all_of, negated, at_most, if_same, same_bytes}
 use Rattle.glk_link.proofs.Decided.{both, equal, IsLeast, first_below, all_in, contains}
@@ -61,7 +63,7 @@ are_within l m h =
     let small = demands_given t.0 m t.2 in
     record { same = rows_few.0 ∙ small.0; short = small.1 }
 
--- Clashes, and the configuration.
+-- Clashes, tasks, and the configuration.
 
 merged_some : (l : Program) → IsSomeAt IsMerged l
 merged_some l = finds_some l (by (option_map (clash_refusal l) (first_clash l)))
@@ -69,6 +71,13 @@ merged_some l = finds_some l (by (option_map (clash_refusal l) (first_clash l)))
     by : (found : Option Cause) → ((refusal : Cause) × (found ≡ Some refusal)) ⊎ ((refusal : Cause) → found ≡ Some refusal → ⊥)
     by (Some refusal) = inl (refusal, refl)
     by None = inr (λ refusal e. cc)
+
+empty_or : (xs : List ℕ) → IsDecided (xs ≡ [])
+empty_or [] = inl refl
+empty_or (x ∷ xs) = inr (λ e. cc)
+
+no_tasks_some : (s : Scheduled) → IsSomeAt HasNoTasks s
+no_tasks_some s = demands_some s (all_of (s.main ≡ []) (s.runtime ≡ []) (empty_or s.main) (empty_or s.runtime))
 
 same_kind : (a : Option RelocKind) (kind : RelocKind) → ((k : RelocKind) → IsDecided (k ≡ kind)) → IsDecided (a ≡ Some kind)
 same_kind None kind each = inr (λ e. cc)
@@ -230,19 +239,22 @@ world_some entry world objects small =
     let is = subst (λ (n : Kept). IsKeptOf entry n) (demands_given k m placed).0 (kept_of_keeps entry world k objects small keeps) in
     gives_some m (link_of entry m is (demands_given k m placed).1)))
 
-pub packages_some : (l : Program) → IsFitting l.world → IsSomeAt LinksPackages l
-packages_some l fits =
+pub packages_some : IsSomeSchedule → (l : Program) → IsFitting l.world → IsSomeAt LinksPackages l
+packages_some schedule l fits =
     then_some l (within_some l) (λ m within.
     then_some m (merged_some m) (λ n merged.
-    then_some n (config_some n) (λ o known.
+    then_some n (schedule n) (λ s scheduled.
+    then_some s (no_tasks_some s) (λ t none.
+    then_some t.program (config_some t.program) (λ o known.
     let limits = are_within l m within in
-    let later : m ≡ o = finds_given m n merged ∙ (demands_given n o known).0 in
+    let kept : s.program ≡ t.program = ap (λ (x : Scheduled). x.program) (demands_given s t none).0 in
+    let later : m ≡ o = finds_given m n merged ∙ scheduled_program n s scheduled ∙ kept ∙ (demands_given t.program o known).0 in
     let same : l ≡ o = limits.same ∙ later in
     let objects = subst (λ (k : Program). AreObjects (objects_of k.world)) same fits.objects in
     let fit = subst (λ (k : Program). byte_count (objects_of k.world) ≤ file_bytes k.world) same fits.fit in
     let short = subst (λ (k : Program). file_bytes k.world ≤ linked_bytes) later limits.short in
     let small : byte_count (objects_of o.world) ≤ linked_bytes = omega (arith, fit, short) in
-    world_some o.entry o.world objects small)))
+    world_some o.entry o.world objects small)))))
 
 -- The passes over options and files.
 
@@ -262,12 +274,12 @@ loaded_whole files opts l h =
     let same : l.world ≡ loaded.given = ap (λ (k : Program). k.world) loaded.is in
     subst (λ (w : List Package). All IsWhole w) (sym same) (load_whole (load_inputs told.0) files loaded.given loaded.step)
 
-pub some_link : IsSomeConfig → IsSomeLoad → (files : Contents) (opts : LinkOptions) → (answer : Result Linked Cause) × IsLink files opts answer
-some_link config some files opts =
-    then_some opts (loads_some config some files opts) (λ l loads. packages_some l (fitting l.world (loaded_whole files opts l loads)))
+pub some_link : IsSomeConfig → IsSomeLoad → IsSomeSchedule → (files : Contents) (opts : LinkOptions) → (answer : Result Linked Cause) × IsLink files opts answer
+some_link config some schedule files opts =
+    then_some opts (loads_some config some files opts) (λ l loads. packages_some schedule l (fitting l.world (loaded_whole files opts l loads)))
 
-pub some_first : IsSomeConfig → IsSomeLoad → IsSomeFirst
-some_first config some files opts = first (some_link config some files opts)
+pub some_first : IsSomeConfig → IsSomeLoad → IsSomeSchedule → IsSomeFirst
+some_first config some schedule files opts = first (some_link config some schedule files opts)
   where
     first : (answer : Result Linked Cause) × IsLink files opts answer → (refusal : Option Cause) × FirstRefusal files opts refusal
     first (Ok linked, h) = (None, (linked, h))

@@ -8,7 +8,10 @@ use Rattle.glk_cause.specs.Chain.{Then, Answers}
 use Rattle.glk_cause.proofs.ChainLaws.{went_on}
 use Rattle.glk_arena.specs.World.{Package}
 use Rattle.glk_keys.specs.Programs.{Program}
-use Rattle.glk_link.specs.Passes.{Kept, Linked, IsWithinLimits, IsMerged, HasKnownConfig, HasPlainObjects, Reaches, FindsCallees, HasPlacedSymbols, Images, Keeps, LinksWorld, LinksPackages}
+use Rattle.glk_init_lists.specs.Outputs.{scheduled_of}
+use Rattle.glk_init_lists.specs.Schedules.{Scheduled, IsScheduled}
+use Rattle.glk_init_lists.specs.declared.lists.InitLists.{InitLists}
+use Rattle.glk_link.specs.Passes.{Kept, Linked, IsWithinLimits, IsMerged, HasNoTasks, HasKnownConfig, HasPlainObjects, Reaches, FindsCallees, HasPlacedSymbols, Images, Keeps, LinksWorld, LinksProgram, LinksPackages}
 use Rattle.glk_link.specs.Outputs.{kept_of, linked_of}
 use Rattle.glk_link.specs.declared.link_packages.Reached.{Reached}
 use Rattle.glk_link.specs.declared.link_packages.Output.{Output}
@@ -28,11 +31,14 @@ FromReach entry = Then (Reaches entry) FindsCallees
 abbrev pub FromWorld : Program → Result Linked Cause → Type 0
 FromWorld l answer = LinksWorld l.entry l.world answer
 
-abbrev pub FromConfig : Program → Result Linked Cause → Type 0
-FromConfig = Then HasKnownConfig FromWorld
+abbrev pub FromTasks : Scheduled → Result Linked Cause → Type 0
+FromTasks = Then HasNoTasks (λ s. LinksProgram s.program)
+
+abbrev pub FromSchedule : Program → Result Linked Cause → Type 0
+FromSchedule = Then IsScheduled FromTasks
 
 abbrev pub FromClashes : Program → Result Linked Cause → Type 0
-FromClashes = Then IsMerged FromConfig
+FromClashes = Then IsMerged FromSchedule
 
 -- The passes up to what is kept.
 
@@ -59,8 +65,16 @@ module _ (l : Program) (limits : IsWithinLimits l (Ok l)) where
   on_limits r h = went_on IsWithinLimits FromClashes l (linked_of l.world) l r limits h
 
   module _ (merged : IsMerged l (Ok l)) where
-    pub on_merged : (r : Result Output (Fault Cause)) → Answers (FromConfig l) (linked_of l.world) r → Answers (LinksPackages l) (linked_of l.world) r
-    on_merged r h = on_limits r (went_on IsMerged FromConfig l (linked_of l.world) l r merged h)
+    pub on_merged : (r : Result Output (Fault Cause)) → Answers (FromSchedule l) (linked_of l.world) r → Answers (LinksPackages l) (linked_of l.world) r
+    on_merged r h = on_limits r (went_on IsMerged FromSchedule l (linked_of l.world) l r merged h)
 
-    pub on_config : HasKnownConfig l (Ok l) → (r : Result Output (Fault Cause)) → Answers (FromWorld l) (linked_of l.world) r → Answers (LinksPackages l) (linked_of l.world) r
-    on_config known r h = on_merged r (went_on HasKnownConfig FromWorld l (linked_of l.world) l r known h)
+    module _ (lists : InitLists) (scheduled : IsScheduled l (Ok (scheduled_of l lists))) where
+      pub on_schedule : (r : Result Output (Fault Cause)) → Answers (FromTasks (scheduled_of l lists)) (linked_of l.world) r → Answers (LinksPackages l) (linked_of l.world) r
+      on_schedule r h = on_merged r (went_on IsScheduled FromTasks l (linked_of l.world) (scheduled_of l lists) r scheduled h)
+
+      module _ (none : HasNoTasks (scheduled_of l lists) (Ok (scheduled_of l lists))) where
+        pub on_tasks : (r : Result Output (Fault Cause)) → Answers (LinksProgram l) (linked_of l.world) r → Answers (LinksPackages l) (linked_of l.world) r
+        on_tasks r h = on_schedule r (went_on HasNoTasks (λ (s : Scheduled). LinksProgram s.program) (scheduled_of l lists) (linked_of l.world) (scheduled_of l lists) r none h)
+
+        pub on_config : HasKnownConfig l (Ok l) → (r : Result Output (Fault Cause)) → Answers (FromWorld l) (linked_of l.world) r → Answers (LinksPackages l) (linked_of l.world) r
+        on_config known r h = on_tasks r (went_on HasKnownConfig FromWorld l (linked_of l.world) l r known h)

@@ -11,6 +11,7 @@ use Rattle.glk_arena.specs.World.{Package, objects_of, file_bytes}
 use Rattle.glk_arena.specs.Waves.{LoadInputs, IsLoad}
 use Rattle.glk_keys.specs.Programs.{Program, program_of}
 use Rattle.glk_keys.specs.Rows.{row_count, row_limit}
+use Rattle.glk_init_lists.specs.Schedules.{Scheduled, IsScheduled}
 use Rattle.glk_link.specs.Options.{AsksUnbuilt}
 use Rattle.glk_link.specs.Config.{Told, Puts, IsTold}
 use Rattle.glk_link.specs.Merges.{IsClash, IsKnownConfig}
@@ -52,6 +53,10 @@ IsWithinLimits = Then HasFewRows HasSmallFiles
 -- no definitions clash
 abbrev pub IsMerged : Program → Result Program Cause → Type 0
 IsMerged = Finds IsClash
+
+-- no task is listed: it would be kept beside the entry
+abbrev pub HasNoTasks : Scheduled → Result Scheduled Cause → Type 0
+HasNoTasks = Demands (λ s. (s.main ≡ []) × (s.runtime ≡ [])) (λ s. cause.NotYet form.Object)
 
 abbrev pub HasKnownConfig : Program → Result Program Cause → Type 0
 HasKnownConfig = Demands IsKnownConfig (λ p. cause.NotYet form.Object)
@@ -98,8 +103,12 @@ Keeps entry = Then HasPlainObjects (Then (Reaches entry) FindsCallees)
 abbrev pub LinksWorld : List ℕ → List Package → Result Linked Cause → Type 0
 LinksWorld entry = Then (Keeps entry) (Then HasPlacedSymbols Images)
 
+-- what is linked of a program without tasks
+abbrev pub LinksProgram : Program → Result Linked Cause → Type 0
+LinksProgram = Then HasKnownConfig (λ p. LinksWorld p.entry p.world)
+
 abbrev pub LinksPackages : Program → Result Linked Cause → Type 0
-LinksPackages = Then IsWithinLimits (Then IsMerged (Then HasKnownConfig (λ p. LinksWorld p.entry p.world)))
+LinksPackages = Then IsWithinLimits (Then IsMerged (Then IsScheduled (Then HasNoTasks (λ s. LinksProgram s.program))))
 
 -- The passes over options and files.
 

@@ -10,6 +10,7 @@ use crate::options::{LinkOptions, Report, asks_unbuilt};
 use glk_arena::{load_waves, one_load};
 use glk_base::Fault;
 use glk_cause::{Cause, Form, write_named};
+use glk_init_lists::one_schedule;
 use glk_io::{Files, Gate};
 use std::alloc::Global;
 use std::thread::Threads;
@@ -39,6 +40,7 @@ pub fn link<R: Threads + Sync, F: Files, G: Gate>(
     ensures due { AnswersUnlessIoFails (F.state files.old) (F.state files.new) opts.now result }
 {
     one_load();
+    one_schedule();
     if asks_unbuilt(opts) {
         return Err(Fault::Bad(Cause::NotYet { form: Form::Flag }));
     }

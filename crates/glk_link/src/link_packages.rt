@@ -4,6 +4,8 @@ ghost use Rattle.std.specs.List.{AllPairs};
 ghost use Rattle.glk_cause.specs.declared.cause.Cause.TheVariants as cause;
 ghost use Rattle.glk_cause.specs.Chain.{Answers, Checks};
 ghost use Rattle.glk_arena.specs.World.{Package, objects_of, symbol_count};
+ghost use Rattle.glk_init_lists.specs.Outputs.{scheduled_of};
+ghost use Rattle.glk_keys.specs.Programs.{Program};
 ghost use Rattle.glk_keys.specs.Rows.{row_count, row_limit};
 ghost use Rattle.glk_obj.specs.Numbers.{kind_of, standard_number};
 ghost use Rattle.glk_link.specs.World.{AreObjects, IsDefinition};
@@ -12,7 +14,7 @@ ghost use Rattle.glk_link.specs.Plans.{linked_bytes, AreFewBytes, AreChosen, IsP
 ghost use Rattle.glk_link.specs.Image.{IsImageOf};
 ghost use Rattle.glk_link.specs.Reach.{AreKept, Misses};
 ghost use Rattle.glk_link.specs.Refusals.{undefined_call};
-ghost use Rattle.glk_link.specs.Passes.{IsWithinLimits, IsMerged, HasKnownConfig, HasPlainObjects, Reaches, FindsCallees, HasPlacedSymbols, Keeps, LinksWorld, LinksPackages, report_of};
+ghost use Rattle.glk_link.specs.Passes.{IsWithinLimits, IsMerged, HasNoTasks, HasKnownConfig, HasPlainObjects, Reaches, FindsCallees, HasPlacedSymbols, Keeps, LinksWorld, LinksPackages, report_of};
 ghost use Rattle.glk_link.specs.Outputs.{program_by, kept_of, linked_of, HasReport};
 
 use crate::built::first_unbuilt;
@@ -30,9 +32,10 @@ use crate::world::World;
 use glk_arena::Loaded;
 use glk_base::{Fault, OutOfMemory, Text};
 use glk_cause::{Cause, Form, Limit};
+use glk_init_lists::{InitLists, schedule};
 use glk_io::Gate;
 use glk_keys::row_total;
-use glk_merge::{Clash, merge};
+use glk_merge::{Clash, Merged, merge};
 use glk_obj::{Numbers, RelocKind};
 use std::alloc::Global;
 use std::thread::Threads;
@@ -77,7 +80,9 @@ pub(crate) fn link_packages<R: Threads + Sync, G: Gate>(
     ensures report { IfOk result (HasReport inputs.now.loaded) }
 {
     check_limits(inputs, entry)?;
-    check_clashes(rt, alloc, inputs, entry, workers, gate)?;
+    let merged = merge_packages(rt, alloc, inputs, entry, workers, gate)?;
+    let lists = schedule(alloc, &merged, &inputs.loaded)?;
+    check_tasks(&lists)?;
     check_config(inputs, entry)?;
     link_world(alloc, &inputs.loaded, entry)
 }
@@ -103,18 +108,19 @@ fn check_limits(inputs: &Inputs, entry: &[u8]) -> Result<(), Fault<Cause>>
     Ok(())
 }
 
-// No definitions clash.
-fn check_clashes<R: Threads + Sync, G: Gate>(
+// The merged program, in which no definitions clash.
+fn merge_packages<'a, R: Threads + Sync, G: Gate>(
     rt: &R,
     alloc: Global,
-    inputs: &Inputs,
-    entry: &[u8],
+    inputs: &'a Inputs,
+    entry: &'a [u8],
     workers: u32,
     gate: &G,
-) -> Result<(), Fault<Cause>>
+) -> Result<Merged<'a>, Fault<Cause>>
     requires rows { row_count (program_by entry.now inputs.now) ≤ row_limit }
     requires workers { (1 ≤ workers) × (workers ≤ 64) }
-    ensures { Checks IsMerged (program_by entry.now inputs.now) result }
+    ensures merged { Checks IsMerged (program_by entry.now inputs.now) result }
+    ensures program { IfOk result (λ m. m.program ≡ program_by entry.now inputs.now) }
 {
     let loaded = &inputs.loaded;
     let builtins = &inputs.builtins;
@@ -128,7 +134,7 @@ fn check_clashes<R: Threads + Sync, G: Gate>(
         workers,
         gate,
     ) {
-        Ok(_) => Ok(()),
+        Ok(merged) => Ok(merged),
         Err(Fault::Bad(clash)) => Err(Fault::Bad(clash_cause(alloc, loaded, clash)?)),
         Err(Fault::OutOfMemory) => Err(Fault::OutOfMemory),
     }
@@ -149,6 +155,16 @@ fn clash_cause(alloc: Global, loaded: &Loaded, clash: Clash) -> Result<Cause, Ou
         second: clash.second,
         packages: (first, second),
     })
+}
+
+// No task is listed.
+fn check_tasks(lists: &InitLists) -> Result<(), Fault<Cause>>
+    ensures { (p : Program) → Checks HasNoTasks (scheduled_of p lists.now) result }
+{
+    if lists.main.is_empty() && lists.runtime.is_empty() {
+        return Ok(());
+    }
+    Err(Fault::Bad(Cause::NotYet { form: Form::Object }))
 }
 
 // The configuration files say what golink knows today.

@@ -34,7 +34,7 @@ help_text =
     ++ codes "      -size            with sizes\n"
     ++ codes "      -sort ORDER      address, name, none or size (default name)\n"
     ++ codes "      example: golink nm hello\n"
-    ++ codes "  addr2line  prints function and line of each address on standard input (not built yet)\n"
+    ++ codes "  addr2line  prints function and line of each address on standard input\n"
     ++ codes "      -i               with inlined frames\n"
     ++ codes "      example: echo 401000 | golink addr2line hello\n"
     ++ codes "  gen        makes random packages, links them and prints a summary (not built yet)\n"

@@ -42,7 +42,7 @@ usage: golink COMMAND [FLAGS] [FILE]\n\
 \x20     -size            with sizes\n\
 \x20     -sort ORDER      address, name, none or size (default name)\n\
 \x20     example: golink nm hello\n\
-\x20 addr2line  prints function and line of each address on standard input (not built yet)\n\
+\x20 addr2line  prints function and line of each address on standard input\n\
 \x20     -i               with inlined frames\n\
 \x20     example: echo 401000 | golink addr2line hello\n\
 \x20 gen        makes random packages, links them and prints a summary (not built yet)\n\

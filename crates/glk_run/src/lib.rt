@@ -1,6 +1,7 @@
 //! All that the program golink does but reading its words.
 #![tactic(auto)]
 
+mod cmd_addr2line;
 mod cmd_dump;
 mod cmd_link;
 mod cmd_mkobj;

@@ -139,6 +139,7 @@ fn fail(alloc: Global, stage: &mut Stage, of: &str, call: &str, kept: &str) -> R
     let kept = number(alloc, kept)?;
     match of {
         "files" => stage.faults.files.push(CallFail { call, kept })?,
+        "stdin" => stage.faults.input.push(call)?,
         "stdout" => stage.faults.out.push(call)?,
         "stderr" => stage.faults.err.push(call)?,
         _ => return Err(Stop::because(alloc, "no such stream")),

@@ -61,6 +61,7 @@ fn ended_of(
 fn outside_of(alloc: Global, stage: &mut Stage) -> Result<Outside, Stop> {
     let Faults {
         files,
+        input: input_fails,
         out,
         err,
         out_room,
@@ -69,7 +70,7 @@ fn outside_of(alloc: Global, stage: &mut Stage) -> Result<Outside, Stop> {
     let input = mem::replace(&mut stage.input, Vec::new(alloc));
     Ok(Outside {
         files: files_in_memory(alloc, stage, files)?,
-        input: MemSource::new(input, Vec::new(alloc)),
+        input: MemSource::new(input, input_fails),
         out: MemSink::new(alloc, out_room, out)?,
         err: MemSink::new(alloc, err_room, err)?,
     })

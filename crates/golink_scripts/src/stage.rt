@@ -18,6 +18,7 @@ pub struct Named {
 #[derive(Drop)]
 pub struct Faults {
     pub files: Vec<CallFail>,
+    pub input: Vec<u64>,
     pub out: Vec<u64>,
     pub err: Vec<u64>,
     pub out_room: usize,
@@ -32,6 +33,7 @@ impl Faults {
     pub(crate) fn none(alloc: Global) -> Faults {
         Faults {
             files: Vec::new(alloc),
+            input: Vec::new(alloc),
             out: Vec::new(alloc),
             err: Vec::new(alloc),
             out_room: ROOM,

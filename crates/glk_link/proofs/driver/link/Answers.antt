@@ -10,9 +10,9 @@ returns-then-asks_unbuilt-clause-means g c = unsupported (g.F.Files.state c.args
 
 pub returns-then-asks_unbuilt-clause-due : goal.returns-then-asks_unbuilt-clause-due
 returns-then-asks_unbuilt-clause-due g c =
-    complete c.one_load.ensures (g.F.Files.state c.args.files.now) (g.F.Files.state c.args.files.now) c.args.opts.now (Err (fault.Bad (cause.NotYet form.Flag)))
+    complete c.one_load.ensures c.one_schedule.ensures (g.F.Files.state c.args.files.now) (g.F.Files.state c.args.files.now) c.args.opts.now (Err (fault.Bad (cause.NotYet form.Flag)))
     (unsupported (g.F.Files.state c.args.files.now) c.args.opts.now (c.if-asks_unbuilt.ensures.0 refl))
 
 pub returns-clause-due : goal.returns-clause-due
 returns-clause-due g c =
-    complete c.one_load.ensures (g.F.Files.state c.args.files.now) (g.F.Files.state c.link_files.new.files) c.args.opts.now c.link_files.result c.link_files.ensures
+    complete c.one_load.ensures c.one_schedule.ensures (g.F.Files.state c.args.files.now) (g.F.Files.state c.link_files.new.files) c.args.opts.now c.link_files.result c.link_files.ensures
