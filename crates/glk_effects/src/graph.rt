@@ -51,7 +51,8 @@ impl<'s, 'm, 'a> ReachGraph<'s, 'm, 'a> {
         tasks: &'s [u32],
     ) -> Result<ReachGraph<'s, 'm, 'a>, OutOfMemory>
         requires { All (λ k. k < row_count read.now.merged.now.program) tasks.now }
-        ensures read { IfOk result (λ graph. graph.read.now.merged.now.program ≡ read.now.merged.now.program) }
+        ensures read { IfOk result
+            (λ graph. graph.read.now.merged.now.program ≡ read.now.merged.now.program) }
         ensures tasks { IfOk result (λ graph. graph.tasks.now ≡ tasks.now) }
     {
         let roots = roots(alloc, read.merged, tasks)?;

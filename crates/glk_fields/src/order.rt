@@ -38,7 +38,8 @@ fn push_section(
     places: &mut Vec<FieldPlace>,
 ) -> Result<(), OutOfMemory>
     requires { text ≤ number }
-    ensures { OnOk result (AddsPlaces values.now (indices_in values.now number) places.old.items places.new.items) }
+    ensures { OnOk result
+        (AddsPlaces values.now (indices_in values.now number) places.old.items places.new.items) }
 {
     let count = values.placement().kept().len();
     for i in 0..count as u32 {

@@ -70,7 +70,8 @@ fn push_place(
     ensures places { OnOk result (places.new.items ≡ places.old.items ++ place ∷ []) }
     ensures rose { IfOk result (λ rises. IsTrue rises → IsTrue rose) }
     ensures rising { IfOk result (λ rises. IsTrue rises
-        → IsNonDecreasingBy (λ f. f.offset) places.old.items → IsNonDecreasingBy (λ f. f.offset) places.new.items) }
+        → IsNonDecreasingBy (λ f. f.offset) places.old.items
+        → IsNonDecreasingBy (λ f. f.offset) places.new.items) }
 {
     let rises = rises_to(places, place);
     places.push(place)?;
@@ -94,7 +95,8 @@ fn fill_places(
     requires chosen { chosen_of values.now.program (key_at values.now i) ≡ Some id.0 }
     ensures inside { OnOk result (All (EndsInside values.now) places.new.items) }
     ensures places { OnOk result (places.new.items ≡ row_places values.now i id.0 address) }
-    ensures rising { IfOk result (λ rises. IsTrue rises → IsNonDecreasingBy (λ f. f.offset) places.new.items) }
+    ensures rising { IfOk result
+        (λ rises. IsTrue rises → IsNonDecreasingBy (λ f. f.offset) places.new.items) }
 {
     places.clear();
     let mut rises = true;

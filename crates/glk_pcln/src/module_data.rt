@@ -58,7 +58,8 @@ fn push_tables(
     requires parts { ArePartsOf (view t.now) parts.now }
     requires short { parts.now.end < 2 ^ 32 }
     requires small { pclntab < 2 ^ 62 }
-    ensures { OnOk result (out.new.items ≡ out.old.items ++ fields_bytes (table_fields pclntab (view t.now))) }
+    ensures { OnOk result
+        (out.new.items ≡ out.old.items ++ fields_bytes (table_fields pclntab (view t.now))) }
 {
     let functions = t.functions.len() as u64;
     let names = pclntab + NAMES;
